@@ -1,0 +1,4 @@
+pub mod Grids
+pub mod Residues
+pub mod Sums
+pub mod Tables

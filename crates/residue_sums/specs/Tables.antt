@@ -1,0 +1,18 @@
+-- Tables: an entry for each row and each column, without bounds, so that they compose without shapes.
+use Rattle.std.specs.Prelude.{ℕ, ◌+◌, ◌*◌, ◌%◌}
+use Rattle.residue_sums.specs.Sums.{sum_below}
+
+abbrev pub Table : Type 0
+Table = ℕ → ℕ → ℕ
+
+-- the product of two tables with an inner dimension of length n, as whole numbers
+abbrev pub product : ℕ → Table → Table → Table
+product n a b i j = sum_below (λ k. a i k * b k j) n
+
+-- the product of two tables with an inner dimension of length n, modulo m
+abbrev pub times : ℕ → ℕ → Table → Table → Table
+times m n a b i j = product n a b i j % m
+
+-- the sum of two tables, modulo m
+abbrev pub plus : ℕ → Table → Table → Table
+plus m a b i j = (a i j + b i j) % m

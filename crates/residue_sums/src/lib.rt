@@ -1,0 +1,2 @@
+//! Residues, sums over ranges, and tables of entries: the definitions that every crate above cites.
+#![tactic(auto)]
