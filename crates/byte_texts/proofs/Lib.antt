@@ -1,0 +1,4 @@
+pub mod Binding
+pub mod DecimalTexts
+pub mod Digits
+pub mod Literals
