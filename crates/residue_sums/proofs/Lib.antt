@@ -1,2 +1,5 @@
 pub mod Congruence
+pub mod Grids
+pub mod Induction
+pub mod Parts
 pub mod Sums
