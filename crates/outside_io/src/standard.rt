@@ -110,3 +110,6 @@ impl<W: Write> Sink for StdSink<W> {
         }
     }
 }
+
+#[cfg(test)]
+mod tests;

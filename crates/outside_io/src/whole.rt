@@ -74,3 +74,6 @@ pub fn write_all<K: Sink>(sink: &mut K, bytes: &[u8]) -> Result<(), Failed>
     }
     sink.flush()
 }
+
+#[cfg(test)]
+mod tests;

@@ -4,7 +4,6 @@ use Rattle.outside_io.proofs.whole.read_all.Given as goal
 
 abbrev pub invariant-loop-buf : goal.invariant-loop-buf
 invariant-loop-buf g l = record {
-  room : length l.buf ≡ 16384;
   consumed : Consumes (g.S.Source.left l.fn.source) (g.S.Source.left l.source) l.bytes.items;
   quiet : g.S.Source.faults l.source ≡ g.S.Source.faults l.fn.source;
 }
