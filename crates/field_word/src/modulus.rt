@@ -127,6 +127,7 @@ impl Modulus {
     /// The residue whose product with a is 1, or None where a is no unit.
     ///
     /// By the extended Euclidean algorithm: Knuth, The Art of Computer Programming, volume 2, section 4.5.2.
+    #[tactic(auto, using(crate::proofs::Euclid::one_from_IsUnit))]
     pub fn inverse(self, a: u64) -> Option<u64>
         requires { a < self }
         ensures units { IsSome result ↔ IsUnit self a }
