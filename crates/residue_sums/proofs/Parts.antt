@@ -1,9 +1,11 @@
 -- A range of length n in parts of length b, the last of which may be shorter: part p has the indices p * b + i with i below its length.
 -- Cited by the sum over block tasks, where a block is a part of the rows and one of the columns, and by blocked storage.
 use Rattle.std.proofs.Common.{◌≡◌, ◌≢◌, ℕ, zero, suc, min, ◌+◌, ◌*◌, ◌-◌, ◌/◌, ◌%◌, ◌<◌, ◌≤◌, inl, inr, refl, sym, ◌∙◌, ap, arith}
-use Rattle.std.proofs.Math.Nat.{mod-lt, mul-le-mul_right}
+use Rattle.std.proofs.Math.Nat.{mod-lt, mul-le-mul_right, div-mul-le_self}
+use Rattle.std.specs.Int.{div_ceil}
+use Rattle.std.proofs.lemmas.Grind.{div_ceil_times}
 use Rattle.std.proofs.lemmas.Nat.{div-add-mod', div-mul-add, mod-mul-add}
-use Rattle.std.proofs.lemmas.Bool.{cases_lt}
+use Rattle.std.proofs.lemmas.Bool.{cases_lt, cases_order}
 use Rattle.residue_sums.specs.Sums.{sum_below, part_count, part_length, part_sum}
 use Rattle.residue_sums.proofs.Sums.{sum_below-same, sum_below-scale, sum_below-split, sum_below-only}
 
@@ -33,6 +35,20 @@ module _ (n b : ℕ) where
       let whole : (n + b - 1) / b * b + (n + b - 1) % b ≡ n + b - 1 = div-add-mod' (n + b - 1) b in
       let place : (n + b - 1) % b < b = mod-lt (n + b - 1) pos in
       omega arith
+
+  -- the number of parts, as code computes it
+  pub div_ceil_is_part_count : 0 < b → div_ceil n b ≡ part_count n b
+  div_ceil_is_part_count pos = elim (cases_order (div_ceil n b) (part_count n b)) [
+    | inl same ↦ same
+    | inr (inl less) ↦ absurd (too_few (div_ceil n b) (part_count n b) less (div_ceil_times n b pos).0 no_more)
+    | inr (inr more) ↦ absurd (too_few (part_count n b) (div_ceil n b) more (part_count_covers pos) (div_ceil_times n b pos).1)
+  ]
+    where
+      no_more : part_count n b * b < n + b
+      no_more = omega (arith, div-mul-le_self (n + b - 1) b)
+
+      too_few : (c d : ℕ) → c < d → n ≤ c * b → d * b < n + b → ⊥
+      too_few c d less covers least = omega (arith, mul-le-mul_right {m = suc c} {n = d} b less)
 
   -- the part of an index is one of the parts
   pub part_below_count : (k : ℕ) → 0 < b → k < n → k / b < part_count n b

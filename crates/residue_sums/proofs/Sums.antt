@@ -1,7 +1,7 @@
 -- Sums over the numbers below n. Cited by the loops of the kernels, the equations of the six forms, the uniqueness of triangular,
 -- LU and LDL solutions, and the sum over block tasks. `omega arith` takes a sum for an unknown, so laws of sums go into its list.
 use Rattle.std.proofs.Common.{◌≡◌, ◌≢◌, ℕ, zero, suc, ◌+◌, ◌*◌, ◌-◌, ◌%◌, ◌<◌, ◌≤◌, ◌⊎◌, inl, inr, cond, eqb, refl, sym, ◌∙◌, ap, arith, add-zero, add-one}
-use Rattle.std.proofs.Math.Nat.{add-suc}
+use Rattle.std.proofs.Math.Nat.{add-suc, mod-mod}
 use Rattle.std.proofs.lemmas.Bool.{cases_eq}
 use Rattle.std.proofs.lemmas.Bool.Decides.{nat_tests}
 use Rattle.residue_sums.specs.Residues.{Cong}
@@ -114,9 +114,22 @@ term_from_sums m n k f g p others same = Cong-by (Cong-add same (Cong-sym (sum_b
 pub Cong-sum_step : {m s p r : ℕ} (f : ℕ → ℕ) (k : ℕ) → Cong m s (sum_below f k) → Cong m p (f k) → r ≡ (s + p) % m → Cong m r (sum_below f (k + 1))
 Cong-sum_step f k so_far next e = rw add-one (Cong-trans (Cong-from_mod e) (Cong-add so_far next))
 
+-- the same where each is the residue of a sum
+pub mod_sum_step : {s p r : ℕ} (m : ℕ) (f : ℕ → ℕ) (k : ℕ) → s ≡ sum_below f k % m → p ≡ f k % m → r ≡ (s + p) % m → r ≡ sum_below f (k + 1) % m
+mod_sum_step {s} {p} m f k so_far next e =
+    let step : Cong m ((s + p) % m) (sum_below f (k + 1)) = Cong-sum_step f k (Cong-from_mod so_far) (Cong-from_mod next) refl in
+    e ∙ sym (mod-mod (s + p) m) ∙ step.same
+
 -- a step of a loop that adds up terms and does not reduce the sum
 pub Cong-sum_step_exact : {m s p r : ℕ} (f : ℕ → ℕ) (k : ℕ) → Cong m s (sum_below f k) → Cong m p (f k) → r ≡ s + p → Cong m r (sum_below f (k + 1))
 Cong-sum_step_exact f k so_far next e = rw add-one (Cong-trans (Cong-from_same e) (Cong-add so_far next))
+
+-- the same in a loop that reduces the sum at times
+pub mod_sum_step_delayed : {p : ℕ} (m s : ℕ) (f : ℕ → ℕ) (k : ℕ) → s % m ≡ sum_below f k % m → p ≡ f k → (s + p) % m ≡ sum_below f (k + 1) % m
+mod_sum_step_delayed {p} m s f k so_far next =
+    let known : Cong m s (sum_below f k) = record { same = so_far } in
+    let step : Cong m (s + p) (sum_below f (k + 1)) = Cong-sum_step_exact f k known (Cong-from_same next) refl in
+    step.same
 
 -- a step of a loop that adds up terms exactly
 pub sum_step : {s p r : ℕ} (f : ℕ → ℕ) (k : ℕ) → s ≡ sum_below f k → p ≡ f k → r ≡ s + p → r ≡ sum_below f (k + 1)

@@ -1,0 +1,6 @@
+use Rattle.std.proofs.Common.{◌≡◌, ◌*◌, ◌%◌, length, slice_index}
+use Rattle.residue_sums.specs.Sums.{sum_below}
+use Rattle.algebra_witness.proofs.dot.dot_delayed.Given as goal
+
+abbrev pub invariant-loop-x : goal.invariant-loop-x
+invariant-loop-x l = l.sum % l.modulus ≡ sum_below (λ k. slice_index l.a k * slice_index l.b k) (length l.yielded) % l.modulus

@@ -1,0 +1,5 @@
+//! Small functions that use the lemmas of the base crates from code, so that each premise of a lemma is met somewhere.
+#![tactic(auto)]
+
+pub mod dot;
+pub mod parts;
