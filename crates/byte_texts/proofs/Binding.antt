@@ -1,5 +1,5 @@
 -- Steps of reading that were not refused. Cited by the laws of every text that is read.
-use Rattle.std.proofs.Common.{◌≡◌, Bool, true, false, Result, Ok, Err, Option, Some, None, refl}
+use Rattle.std.proofs.Common.{◌≡◌, Bool, true, false, Result, Ok, Err, Option, Some, None, refl, ap}
 use Rattle.byte_texts.specs.Reading.{◌>>=◌, kept_if, some_or}
 
 -- the value of the first step
@@ -17,6 +17,10 @@ pub some_or_ok : {A F : Type 0} (fault : F) (o : Option A) (y : A) → some_or f
 some_or_ok fault None y e = absurd cc
 some_or_ok fault (Some x) y e = cc
 
--- one answer has one value
-pub ok_is : {A F : Type 0} (r : Result A F) (x y : A) → r ≡ Ok x → r ≡ Ok y → x ≡ y
-ok_is r x y e f = cc
+-- what two answers with one value have
+pub same_ok : {A F : Type 0} (x y : A) → ◌≡◌ {A = Result A F} (Ok x) (Ok y) → x ≡ y
+same_ok x y e = cc
+
+-- what two options with one pair have
+pub same_some_pair : {A B : Type 0} (x y : A × B) → Some x ≡ Some y → (x.0 ≡ y.0) × (x.1 ≡ y.1)
+same_some_pair x y e = let same : x ≡ y = cc in (ap (λ p. p.0) same, ap (λ p. p.1) same)

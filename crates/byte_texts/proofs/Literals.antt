@@ -1,5 +1,5 @@
 -- A text at the front of the bytes.
-use Rattle.std.proofs.Common.{◌≡◌, ◌≢◌, ◌⊎◌, ℕ, Bool, true, false, cond, eqb, List, [], ◌∷◌, ◌++◌, Result, Ok, Err, refl, sym, ap, ◌∙◌, eq-eqb, inl, inr}
+use Rattle.std.proofs.Common.{◌≡◌, ◌≢◌, ◌⊎◌, ℕ, Bool, true, false, cond, eqb, List, [], ◌∷◌, ◌++◌, Result, Ok, Err, refl, ap, ◌∙◌, eq-eqb, inl, inr}
 use Rattle.std.proofs.lemmas.Bool.{eqb-true}
 use Rattle.byte_texts.specs.Reading.{literal_at}
 
@@ -44,5 +44,6 @@ literal_found fault text bytes rest e = ap (literal_at fault text) e ∙ literal
 -- bytes that do not begin with the text
 pub literal_none : {F : Type 0} (fault : F) (text bytes : List ℕ) → ((rest : List ℕ) → bytes ≢ text ++ rest) → literal_at fault text bytes ≡ Err fault
 literal_none fault text bytes never = elim (literal_cases fault text bytes) [
-    inl refused ↦ refused
-  | inr read ↦ absurd (never read.0 (literal_takes fault text bytes read.0 read.1)) ]
+  | inl refused ↦ refused
+  | inr read ↦ absurd (never read.0 (literal_takes fault text bytes read.0 read.1))
+]
