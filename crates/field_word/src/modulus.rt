@@ -32,7 +32,7 @@ struct Bezout {
 }
 
 impl Modulus {
-    /// The modulus m, or None where m is out of range.
+    /// The modulus m, or None where m is below 2 or 2^32 and above.
     pub fn new(m: u64) -> Option<Modulus>
         ensures range { IsSome result ↔ IsModulus m }
         ensures value { IfSome result (λ modulus. modulus ≡ m) }
@@ -44,6 +44,7 @@ impl Modulus {
         }
     }
 
+    /// The number itself.
     pub fn value(self) -> u64
         ensures value { result ≡ self }
         ensures range { IsModulus self }
@@ -51,6 +52,7 @@ impl Modulus {
         self.value
     }
 
+    /// The sum of two residues.
     pub fn add(self, a: u64, b: u64) -> u64
         requires first { a < self }
         requires second { b < self }
@@ -65,6 +67,7 @@ impl Modulus {
         }
     }
 
+    /// The difference of two residues.
     pub fn sub(self, a: u64, b: u64) -> u64
         requires first { a < self }
         requires second { b < self }
@@ -74,6 +77,7 @@ impl Modulus {
         if b <= a { a - b } else { a + self.value - b }
     }
 
+    /// The product of two residues.
     pub fn mul(self, a: u64, b: u64) -> u64
         requires first { a < self }
         requires second { b < self }
@@ -83,6 +87,7 @@ impl Modulus {
         a * b % self.value
     }
 
+    /// The residue whose sum with a is 0.
     pub fn neg(self, a: u64) -> u64
         requires { a < self }
         ensures value { result ≡ (self - a) % self }

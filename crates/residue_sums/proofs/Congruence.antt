@@ -18,6 +18,7 @@ Cong-to_multiples m a b h =
     let one_residue : a % m ≡ b % m = h.same in
     omega (arith, div-add-mod' a m, div-add-mod' b m)
 
+-- each number is congruent to itself
 pub Cong-refl : (m a : ℕ) → Cong m a a
 Cong-refl m a = record { same = refl }
 
@@ -25,9 +26,11 @@ Cong-refl m a = record { same = refl }
 pub Cong-from_same : {m a b : ℕ} → a ≡ b → Cong m a b
 Cong-from_same {m} e = record { same = ap (λ (x : ℕ). x % m) e }
 
+-- a congruence turned round
 pub Cong-sym : {m a b : ℕ} → Cong m a b → Cong m b a
 Cong-sym h = record { same = sym h.same }
 
+-- two congruences in a row
 pub Cong-trans : {m a b c : ℕ} → Cong m a b → Cong m b c → Cong m a c
 Cong-trans h k = record { same = h.same ∙ k.same }
 

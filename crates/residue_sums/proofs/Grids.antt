@@ -12,7 +12,7 @@ use Rattle.residue_sums.specs.Grids.{Grid, IsFull, entry, with_entry, AreResidue
 pub place_below : (g : Grid) (i j : ℕ) → IsFull g → i < g.rows → j < g.cols → i * g.cols + j < length g.entries
 place_below g i j full row col = omega (arith, mul-add-lt i g.cols j g.rows row col)
 
--- an entry of a grid of residues
+-- an entry of a grid of residues is below m
 pub entry_below : (m : ℕ) (g : Grid) (i j : ℕ) → IsFull g → AreResidues m g → i < g.rows → j < g.cols → entry g i j < m
 entry_below m g i j full residues row col = All-get_or (λ x. x < m) g.entries (i * g.cols + j) 0 (place_below g i j full row col) residues
 
@@ -32,9 +32,11 @@ module _ (g : Grid) (i j v : ℕ) where
   entry-with_entry_other_col a b col other_col ne =
       get_or-set_other g.entries (i * g.cols + j) (a * g.cols + b) v 0 (λ e. ne (same_from_place a b i j g.cols other_col col e).1)
 
+  -- the grid is still full
   pub IsFull-with_entry : IsFull g → IsFull (with_entry g i j v)
   IsFull-with_entry full = length-set g.entries (i * g.cols + j) v ∙ full
 
+  -- a write of a residue leaves residues
   pub AreResidues-with_entry : (m : ℕ) → v < m → AreResidues m g → AreResidues m (with_entry g i j v)
   AreResidues-with_entry m below residues = All-set (λ x. x < m) g.entries (i * g.cols + j) v below residues
 

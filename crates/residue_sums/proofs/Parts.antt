@@ -36,7 +36,7 @@ module _ (n b : ℕ) where
       let place : (n + b - 1) % b < b = mod-lt (n + b - 1) pos in
       omega arith
 
-  -- the number of parts, as code computes it
+  -- the number of parts, as `div_ceil` computes it
   pub div_ceil_is_part_count : 0 < b → div_ceil n b ≡ part_count n b
   div_ceil_is_part_count pos = elim (cases_order (div_ceil n b) (part_count n b)) [
     | inl same ↦ same
@@ -89,11 +89,11 @@ module _ (n b : ℕ) where
   pub sum_below-all_parts : (f : ℕ → ℕ) → 0 < b → sum_below (part_sum n b f) (part_count n b) ≡ sum_below f n
   sum_below-all_parts f pos = sum_below-part_sum f (part_count n b) (part_count_covers pos)
 
-  -- terms that are equal
+  -- sums over a part whose terms are equal are equal
   pub part_sum-same : (f g : ℕ → ℕ) (p : ℕ) → ((k : ℕ) → k < n → f k ≡ g k) → part_sum n b f p ≡ part_sum n b g p
   part_sum-same f g p each = sum_below-same (λ i. f (p * b + i)) (λ i. g (p * b + i)) (part_length n b p) (λ i h. each (p * b + i) (index_below p i h))
 
-  -- a sum in which only the terms of part q are marked, the others by 0
+  -- a sum over the range in which the terms of part q are marked by 1, and those of the other parts by 0, is that over part q
   pub sum_below-marked_part : (q : ℕ) (f mark : ℕ → ℕ) → 0 < b → q < part_count n b → mark q ≡ 1 → ((p : ℕ) → p ≢ q → mark p ≡ 0)
       → sum_below (λ k. mark (k / b) * f k) n ≡ part_sum n b f q
   sum_below-marked_part q f mark pos below one others =
