@@ -1,17 +1,30 @@
 -- A matrix as text: a line with its name, rows and columns, a line for each row, and `end`.
-use Rattle.std.specs.Prelude.{ℕ, ◌%◌, List, [], ◌∷◌, ◌++◌, length, codes, decimal, ◌==◌, if◌then◌else◌}
+use Rattle.std.specs.Prelude.{ℕ, zero, suc, ◌%◌, List, [], ◌∷◌, ◌++◌, length, take, drop, codes, decimal, ◌==◌, if◌then◌else◌}
 use Rattle.residue_sums.specs.Grids.{Grid}
+
+-- the entries of a row with a space between two, and a line feed
+abbrev pub row_line : List ℕ → List ℕ
+row_line [] = codes "\n"
+row_line (x ∷ []) = decimal x ++ codes "\n"
+row_line (x ∷ y ∷ xs) = decimal x ++ codes " " ++ row_line (y ∷ xs)
+
+-- so many rows, each of so many entries and on a line of its own
+abbrev pub row_lines : ℕ → ℕ → List ℕ → List ℕ
+row_lines zero cols entries = []
+row_lines (suc rows) cols entries = row_line (take cols entries) ++ row_lines rows cols (drop cols entries)
+
+-- the matrix under its name; with no columns there are no lines of rows
+abbrev pub matrix_text : List ℕ → Grid → List ℕ
+matrix_text name g = codes "matrix " ++ name ++ codes " " ++ decimal g.rows ++ codes " " ++ decimal g.cols ++ codes "\n"
+    ++ (if g.cols == 0 then [] else row_lines g.rows g.cols g.entries) ++ codes "end\n"
+
+-- ---- the same entry by entry, for code that goes along the entries
 
 -- what stands behind an entry that so many entries follow: a line feed at a row's end, and else a space
 abbrev pub entry_end : ℕ → ℕ → ℕ
 entry_end cols behind = if behind % cols == 0 then 10 else 32
 
--- the entries of whole rows, each row on a line of its own
-abbrev pub row_lines : ℕ → List ℕ → List ℕ
-row_lines cols [] = []
-row_lines cols (x ∷ xs) = decimal x ++ entry_end cols (length xs) ∷ row_lines cols xs
-
--- the matrix under its name; with no columns there are no lines of rows
-abbrev pub matrix_text : List ℕ → Grid → List ℕ
-matrix_text name g = codes "matrix " ++ name ++ codes " " ++ decimal g.rows ++ codes " " ++ decimal g.cols ++ codes "\n"
-    ++ row_lines g.cols g.entries ++ codes "end\n"
+-- each entry of whole rows and what stands behind it
+abbrev pub entry_lines : ℕ → List ℕ → List ℕ
+entry_lines cols [] = []
+entry_lines cols (x ∷ xs) = decimal x ++ entry_end cols (length xs) ∷ entry_lines cols xs

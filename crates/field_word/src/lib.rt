@@ -5,4 +5,4 @@
 
 mod modulus;
 
-pub use modulus::Modulus;
+pub use modulus::{Modulus, inverse_is_unique};

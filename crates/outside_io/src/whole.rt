@@ -41,12 +41,18 @@ pub fn read_all<S: Source>(alloc: Global, source: &mut S, limit: u32) -> Result<
     ensures within { IfOk result (λ bytes. vec_len bytes ≤ limit) }
     ensures too_long { result ≡ Err ReadEnd.TooLong →
         (input : List ℕ) × Tells (S.left source.old) input × (limit < length input) }
+    // Byte `limit + 1` was read.
+    ensures too_long_read { result ≡ Err ReadEnd.TooLong →
+        (front : List ℕ) × Consumes (S.left source.old) (S.left source.new) front
+        × (limit < length front) }
     ensures read_fault { result ≡ Err ReadEnd.ReadFault →
         Rose (S.faults source.old) (S.faults source.new) }
     // A fault comes before byte `limit + 1`.
     ensures fault_within { result ≡ Err ReadEnd.ReadFault →
         (front : List ℕ) × Consumes (S.left source.old) (S.left source.new) front
         × (length front ≤ limit) }
+    // Whatever it answers, it took a front of what was left.
+    ensures taken { (front : List ℕ) × Consumes (S.left source.old) (S.left source.new) front }
     ensures later { S.faults source.old ≤ S.faults source.new }
     ensures quiet { result ≢ Err ReadEnd.ReadFault → S.faults source.new ≡ S.faults source.old }
 {
