@@ -1,0 +1,13 @@
+mod Answering
+mod CommandWords
+mod DueLaws
+mod DueStatuses
+mod EarlyEntries
+mod EarlyJobs
+mod EarlyMatrices
+mod EarlyNumbers
+mod FiveItems
+mod ProductRows
+mod WordNumbers
+mod WorkedRows
+mod WrittenMatrix

@@ -1,0 +1,7 @@
+pub mod Answers
+pub mod Due
+pub mod EarlyReading
+pub mod EarlyTexts
+pub mod Equation
+pub mod ProductRows
+pub mod Words

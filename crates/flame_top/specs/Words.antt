@@ -1,0 +1,27 @@
+-- The words of a command.
+use Rattle.std.specs.Prelude.{◌≡◌, ℕ, ◌≤◌, List, [], ◌∷◌, codes, decimal}
+use Rattle.flame_top.specs.declared.command.Command.{Command}
+use Rattle.flame_top.specs.declared.command.Command.TheVariants.{Run}
+use Rattle.flame_top.specs.declared.command.RunWords.{RunWords}
+
+-- the one spelling of a command
+abbrev pub words_of : Command → List (List ℕ)
+words_of (Run words) = codes "run" ∷ codes "--block" ∷ decimal words.block ∷ codes "--workers" ∷ decimal words.workers ∷ []
+
+-- a block size is 1 to 1,024, and one worker runs
+pub record AreRunWords (words : RunWords) : Type 0 where
+  pub block_low : 1 ≤ words.block
+  pub block_high : words.block ≤ 1024
+  pub workers : words.workers ≡ 1
+
+-- the numbers of a command are in range
+abbrev pub IsInRange : Command → Type 0
+IsInRange (Run words) = AreRunWords words
+
+-- the words name the command
+abbrev pub AreWordsOf : List (List ℕ) → Command → Type 0
+AreWordsOf words command = IsInRange command × (words ≡ words_of command)
+
+-- the words name no command
+abbrev pub AreBad : List (List ℕ) → Type 0
+AreBad words = (command : Command) → AreWordsOf words command → ⊥

@@ -1,0 +1,87 @@
+ghost use Rattle.std.specs.Prelude.{◌≡◌, ◌≢◌, List, ℕ, IfOk, IsErrOf};
+ghost use Rattle.std.specs.Io.KnownBytes.{Consumes, IsAtEnd};
+ghost use Rattle.outside_io.specs.Causes.{Rose};
+ghost use Rattle.flame_top.specs.EarlyTexts.{IsValid};
+ghost use Rattle.flame_top.specs.Due.{DueProduct, DueShort, DueRun};
+ghost use Rattle.flame_top.specs.Answers.{DueFrom};
+ghost use Rattle.flame_top.specs.declared.output.Halt.TheVariants.{Memory};
+
+use crate::fault::EarlyFault;
+use crate::job::ProductJob;
+use crate::product::product;
+use crate::reading::read_early;
+use crate::writing::put_matrix;
+use outside_io::{ReadEnd, Source, read_all};
+use std::alloc::{AllocError, Global};
+
+/// An input may have so many bytes.
+const LIMIT: u32 = 67_108_864;
+
+/// A status and the whole text that goes with it.
+#[derive(Debug, Drop)]
+pub struct Output {
+    pub status: u8,
+    pub text: Vec<u8>,
+}
+
+/// Why no output was composed.
+#[derive(Clone, Copy, Debug, PartialEq, Eq)]
+pub enum Halt {
+    /// Memory ran out.
+    Memory,
+    /// The source failed.
+    ReadFault,
+}
+
+impl From<AllocError> for Halt {
+    ghost from_gives = { λ _ e. e ≡ Memory };
+
+    fn from(_e: AllocError) -> Halt {
+        Halt::Memory
+    }
+}
+
+fn refused(alloc: Global, text: &[u8]) -> Result<Output, AllocError>
+    ensures { IfOk result (λ output. (output.status ≡ 3) × (output.text.items ≡ text.now)) }
+{
+    Ok(Output {
+        status: 3,
+        text: Vec::from_slice(alloc, text)?,
+    })
+}
+
+fn product_output(alloc: Global, job: ProductJob) -> Result<Output, AllocError>
+    requires { IsValid job }
+    ensures { IfOk result (λ output. DueProduct job output.status output.text.items) }
+{
+    let matrix = product(alloc, job)?;
+    let mut text = Vec::new(alloc);
+    put_matrix(b"W", &matrix, &mut text)?;
+    Ok(Output { status: 0, text })
+}
+
+fn short_output(alloc: Global, bytes: &[u8]) -> Result<Output, AllocError>
+    ensures { IfOk result (λ output. DueShort bytes.now output.status output.text.items) }
+{
+    match read_early(alloc, bytes) {
+        Ok(job) => Ok(product_output(alloc, job)?),
+        Err(EarlyFault::Memory) => Err(AllocError),
+        Err(EarlyFault::NotBuilt) => Ok(refused(alloc, b"refused NotBuilt\n")?),
+    }
+}
+
+/// Reads the source to its end, and composes the output of a run.
+pub fn run_output<S: Source>(alloc: Global, source: &mut S) -> Result<Output, Halt>
+    ensures due { IfOk result (λ output. DueFrom DueRun (S.left source.old) output.status output.text.items) }
+    ensures read_fault { IsErrOf result Halt.ReadFault → Rose (S.faults source.old) (S.faults source.new) }
+    ensures quiet { result ≢ Err Halt.ReadFault → S.faults source.new ≡ S.faults source.old }
+    ensures taken { (front : List ℕ) × Consumes (S.left source.old) (S.left source.new) front }
+    ensures ended { IfOk result (λ output. output.status ≡ 0 → IsAtEnd (S.left source.new)) }
+{
+    match read_all(alloc, source, LIMIT) {
+        Ok(bytes) => Ok(short_output(alloc, &bytes)?),
+        Err(ReadEnd::TooLong) => Ok(refused(alloc, b"refused TooLong\n")?),
+        Err(ReadEnd::ReadFault) => Err(Halt::ReadFault),
+        Err(ReadEnd::Memory) => Err(Halt::Memory),
+    }
+}

@@ -1,0 +1,48 @@
+ghost use Rattle.std.specs.Prelude.{◌≡◌, ◌⊎◌};
+ghost use Rattle.std.specs.Io.KnownBytes.{IsAtEnd};
+ghost use Rattle.flame_top.specs.Due.{DueCommand};
+ghost use Rattle.flame_top.specs.Answers.{Answers, IsDueStatus, Delivers, state_of};
+
+use crate::command::Command;
+use crate::output::{Halt, run_output};
+use outside_io::{Failed, Sink, Source, write_all};
+use std::alloc::Global;
+
+/// Writes a text, and answers its status, or 6 where the sink failed.
+pub fn deliver<K: Sink>(sink: &mut K, status: u8, text: &[u8]) -> u8
+    requires { IsDueStatus status }
+    ensures { Delivers status text.now (state_of K.held K.faults sink.old) (state_of K.held K.faults sink.new) result }
+{
+    match write_all(sink, text) {
+        Ok(()) => status,
+        Err(Failed) => 6,
+    }
+}
+
+/// Runs the job of the input with one worker: reads the source to its end, computes, and writes the
+/// printed matrix. It answers the status.
+///
+/// - 0 comes with the text of the matrix.
+/// - 3 comes with `refused TooLong` where the input has more than 67,108,864 bytes, and with
+///   `refused NotBuilt` where it is no text of a job that can be run so far.
+/// - 1 comes only where the source failed, and 5 where memory ran out; nothing is written.
+/// - 6 comes only where the sink failed, behind a front of the text that is due.
+pub fn run_one_cmd<S: Source, K: Sink>(
+    alloc: Global,
+    command: &Command,
+    source: &mut S,
+    sink: &mut K,
+) -> u8
+    ensures answers { Answers (DueCommand command.now)
+        (state_of S.left S.faults source.old) (state_of S.left S.faults source.new)
+        (state_of K.held K.faults sink.old) (state_of K.held K.faults sink.new) result }
+    ensures ended { result ≡ 0 → IsAtEnd (S.left source.new) }
+    ensures untouched { (result ≡ 1) ⊎ (result ≡ 5) → sink.new ≡ sink.old }
+{
+    let Command::Run { words: _ } = command;
+    match run_output(alloc, source) {
+        Ok(output) => deliver(sink, output.status, &output.text),
+        Err(Halt::Memory) => 5,
+        Err(Halt::ReadFault) => 1,
+    }
+}
