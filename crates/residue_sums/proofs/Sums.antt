@@ -64,6 +64,17 @@ sum_below-shrink f n k le zeros =
     let whole : n ≡ k + (n - k) = omega arith in
     omega (arith, ap (sum_below f) whole, sum_below-split f k (n - k))
 
+-- a sum whose terms after k are 0
+pub sum_below-last : (f : ℕ → ℕ) (n k : ℕ) → k < n → ((i : ℕ) → k < i → i < n → f i ≡ 0) → sum_below f n ≡ sum_below f k + f k
+sum_below-last f n k p zeros = sum_below-shrink f n (suc k) (omega arith) (λ i q r. zeros i (omega arith) r)
+
+-- a sum whose terms before k are 0
+pub sum_below-first : (f : ℕ → ℕ) (n k : ℕ) → k < n → ((i : ℕ) → i < k → f i ≡ 0)
+    → sum_below f n ≡ f k + sum_below (λ i. f (k + 1 + i)) (n - (k + 1))
+sum_below-first f n k p zeros =
+    let whole : n ≡ k + 1 + (n - (k + 1)) = omega arith in
+    omega (arith, ap (sum_below f) whole, sum_below-split f (k + 1) (n - (k + 1)), sum_below-more f k, sum_below-zero f k zeros)
+
 -- f with 0 for its value at k: a sum of the other terms
 abbrev pub without : ℕ → (ℕ → ℕ) → ℕ → ℕ
 without k f i = cond (eqb i k) 0 (f i)

@@ -1,4 +1,5 @@
 pub mod Grids
+pub mod Inverses
 pub mod Residues
 pub mod Sums
 pub mod Tables

@@ -1,9 +1,21 @@
 -- Tables: an entry for each row and each column, without bounds, so that they compose without shapes.
-use Rattle.std.specs.Prelude.{ℕ, ◌+◌, ◌*◌, ◌%◌}
+use Rattle.std.specs.Prelude.{ℕ, ◌+◌, ◌*◌, ◌%◌, Bool, ◌==◌, if◌then◌else◌}
 use Rattle.residue_sums.specs.Sums.{sum_below}
 
 abbrev pub Table : Type 0
 Table = ℕ → ℕ → ℕ
+
+-- 1 on the diagonal and 0 elsewhere
+abbrev pub identity : Table
+identity i j = if i == j then 1 else 0
+
+-- rows and columns exchanged
+abbrev pub transpose : Table → Table
+transpose a i j = a j i
+
+-- the transpose of a table that is primed, and any other table itself
+abbrev pub oriented : Bool → Table → Table
+oriented primed a i j = if primed then a j i else a i j
 
 -- the product of two tables with an inner dimension of length n, as whole numbers
 abbrev pub product : ℕ → Table → Table → Table
