@@ -1,0 +1,130 @@
+-- The factors L * D * L' of a matrix are unique, and so is the first bad pivot. Cited by the kernel that factors in place and by the
+-- one solution of a statement.
+use Rattle.std.proofs.Common.{◌≡◌, ℕ, zero, suc, ◌+◌, ◌<◌, ◌≤◌, inl, inr, refl, sym, ◌∙◌, arith}
+use Rattle.std.proofs.lemmas.Bool.{cases_order}
+use Rattle.residue_sums.specs.Residues.{Cong, IsUnit}
+use Rattle.residue_sums.specs.Tables.{Table, product, transpose}
+use Rattle.residue_sums.proofs.Congruence.{Cong-sym, Cong-trans, Cong-from_same, IsUnit-Cong}
+use Rattle.residue_sums.proofs.Inverses.{IsUnit-or_not}
+use Rattle.structure_rules.specs.declared.Structure.TheVariants.{Lower, UnitLower, Diagonal}
+use Rattle.structure_rules.specs.Structures.{view, IsEntry}
+use Rattle.structure_rules.proofs.Views.{IsEntry-or_not}
+use Rattle.matrix_algebra.specs.Triangles.{IsUnitLower, IsDiagonal}
+use Rattle.matrix_algebra.specs.Factors.{IsLdl, IsLdlBadPivot}
+use Rattle.matrix_algebra.proofs.Substitution.{SolvesBelow, Solution, solution-unique, solution}
+use Rattle.matrix_algebra.proofs.Places.{rowwise}
+use Rattle.matrix_algebra.proofs.Packed.{pivot_of, pivot_of-unit, packed, packed-lower, packed-upper, view-diagonal_here, IsUnitLower-view, IsDiagonal-view, row_first}
+use Rattle.matrix_algebra.proofs.Ldl.{ldl_left, product-views, product-packed, IsSystem-ldl}
+
+-- the entries of a lower n by n matrix
+lower_entry : (n i j : ℕ) → j ≤ i → i < n → IsEntry n n Lower i j
+lower_entry n i j below row = record { row = row; col = omega arith; inside = λ over. omega arith }
+
+-- two pairs of factors of one matrix
+module _ (m n : ℕ) (two : 2 ≤ m) (r l d l' d' : Table) (factors : IsLdl m n r l d) (factors' : IsLdl m n r l' d')
+    (units : (i : ℕ) → i + 1 < n → IsUnit m (d i i)) where
+  packed_agree : (i j : ℕ) → IsEntry n n Lower i j → Cong m (packed l d i j) (packed l' d' i j)
+  packed_agree = solution-unique m (IsEntry n n Lower) (rowwise n (λ k. k) (λ k. k)) ldl_left pivot_of (IsSystem-ldl m n) two (packed l d) (packed l' d')
+      (λ i j entry. pivot_of-unit m i j (packed l d) two
+      (λ below. let row : i < n = entry.row in IsUnit-Cong m (d j j) (packed l d j j) (Cong-from_same (sym (packed-upper l d j j (omega arith)))) (units j (omega arith))))
+      (λ i j entry.
+      let below : j ≤ i = omega (arith, entry.inside) in
+      Cong-trans
+      (Cong-trans (Cong-from_same (sym (product-packed n l d i j factors.lower factors.diagonal below entry.row))) (factors.equation i j below entry.row))
+      (Cong-trans (Cong-sym (factors'.equation i j below entry.row)) (Cong-from_same (product-packed n l' d' i j factors'.lower factors'.diagonal below entry.row))))
+
+  -- have one L, where all pivots but the last are units
+  pub ldl_lower_unique : (i j : ℕ) → j < i → i < n → Cong m (l i j) (l' i j)
+  ldl_lower_unique i j below row = rw (packed-lower l d i j below, packed-lower l' d' i j below) at (packed_agree i j (lower_entry n i j (omega arith) row))
+
+  -- and one D
+  pub ldl_diagonal_unique : (i : ℕ) → i < n → Cong m (d i i) (d' i i)
+  ldl_diagonal_unique i row = rw (packed-upper l d i i (omega arith), packed-upper l' d' i i (omega arith)) at (packed_agree i i (lower_entry n i i (omega arith) row))
+
+-- factors of a matrix have the factors of each leading block
+pub IsLdl-leading : (m n k : ℕ) (r l d : Table) → k ≤ n → IsLdl m n r l d → IsLdl m k r l d
+IsLdl-leading m n k r l d le factors = record {
+  lower = lower;
+  diagonal = diagonal;
+  equation = λ i j below row. Cong-trans
+      (Cong-from_same (product-packed k l d i j lower diagonal below row ∙ sym (product-packed n l d i j factors.lower factors.diagonal below (omega arith))))
+      (factors.equation i j below (omega arith));
+}
+  where
+    lower : IsUnitLower k l
+    lower = record { one = λ i row. factors.lower.one i (omega arith); above = λ i j h col. factors.lower.above i j h (omega arith) }
+
+    diagonal : IsDiagonal k d
+    diagonal = record { apart = λ i j row col h. factors.diagonal.apart i j (omega arith) (omega arith) h }
+
+-- a bad pivot is a unit in no other factors that reach it
+ldl_bad_pivot_elsewhere : (m n : ℕ) → 2 ≤ m → (r l d : Table) (k : ℕ) → IsLdlBadPivot m n r k → IsLdl m (k + 1) r l d → ¬ (IsUnit m (d k k))
+ldl_bad_pivot_elsewhere m n two r l d k bad factors unit =
+    bad.bad (IsUnit-Cong m (d k k) (bad.d k k)
+    (Cong-sym (ldl_diagonal_unique m (k + 1) two r bad.l bad.d l d bad.factors factors (λ i before. bad.units i (omega arith)) k (omega arith))) unit)
+
+-- a matrix has at most one bad pivot
+pub ldl_bad_pivot_unique : (m n : ℕ) → 2 ≤ m → (r : Table) (k k' : ℕ) → IsLdlBadPivot m n r k → IsLdlBadPivot m n r k' → k ≡ k'
+ldl_bad_pivot_unique m n two r k k' bad bad' = elim (cases_order k k') [
+  | inl same ↦ same
+  | inr other ↦ elim other [
+    | inl less ↦ absurd (earlier k k' bad bad' less)
+    | inr more ↦ absurd (earlier k' k bad' bad more)
+  ]
+]
+  where
+    earlier : (a b : ℕ) → IsLdlBadPivot m n r a → IsLdlBadPivot m n r b → a < b → ⊥
+    earlier a b first second h =
+        ldl_bad_pivot_elsewhere m n two r second.l second.d a first (IsLdl-leading m (b + 1) (a + 1) r second.l second.d (omega arith) second.factors) (second.units a h)
+
+-- a matrix with factors whose pivots are units has no bad pivot
+pub no_ldl_bad_pivot : (m n : ℕ) → 2 ≤ m → (r l d : Table) → IsLdl m n r l d → ((i : ℕ) → i < n → IsUnit m (d i i)) → (k : ℕ) → ¬ (IsLdlBadPivot m n r k)
+no_ldl_bad_pivot m n two r l d factors units k bad =
+    let within : k < n = bad.within in
+    ldl_bad_pivot_elsewhere m n two r l d k bad (IsLdl-leading m n (k + 1) r l d (omega arith) factors) (units k within)
+
+-- where a matrix has no bad pivot, the pivots of its factors are units
+pub ldl_units : (m n : ℕ) → 2 ≤ m → (r l d : Table) → IsLdl m n r l d → ((k : ℕ) → ¬ (IsLdlBadPivot m n r k)) → (i : ℕ) → i < n → IsUnit m (d i i)
+ldl_units m n two r l d factors none i row = below n i row row
+  where
+    below : (q i : ℕ) → i < q → i < n → IsUnit m (d i i)
+    below zero i h row = absurd (omega arith)
+    below (suc q) i h row = elim (IsUnit-or_not m (d i i) two) [
+      | inl unit ↦ unit
+      | inr bad ↦ absurd (none i (record {
+        within = row;
+        l = l;
+        d = d;
+        factors = IsLdl-leading m n (i + 1) r l d (omega arith) factors;
+        units = λ j before. below q j (omega arith) (omega arith);
+        bad = bad;
+      }))
+    ]
+
+-- a matrix with no bad pivot has factors
+pub ldl_solution : (m n : ℕ) → 2 ≤ m → (r other : Table) → ((k : ℕ) → ¬ (IsLdlBadPivot m n r k))
+    → Solution m (IsEntry n n Lower) (λ w i j. Cong m (product n (product n (view UnitLower w) (view Diagonal w)) (transpose (view UnitLower w)) i j) (r i j)) other
+ldl_solution m n two r other none = record {
+  table = found.table;
+  solves = λ i j entry. Cong-trans (Cong-from_same (product-views n found.table i j (omega (arith, entry.inside)) entry.row)) (found.solves i j entry);
+  residues = found.residues;
+  kept = found.kept;
+}
+  where
+    units : (x : Table) (i j : ℕ) → IsEntry n n Lower i j → SolvesBelow m (IsEntry n n Lower) (rowwise n (λ k. k) (λ k. k)) ldl_left r x (rowwise n (λ k. k) (λ k. k) i j)
+        → IsUnit m (pivot_of x i j)
+    units x i j entry before = pivot_of-unit m i j x two (λ below. IsUnit-Cong m (view Diagonal x j j) (x j j) (Cong-from_same (view-diagonal_here x j j refl))
+        (ldl_units m (j + 1) two r (view UnitLower x) (view Diagonal x) (leading below)
+        (λ k bad. none k (record { within = (let small : k < j + 1 = bad.within in let col : j < n = entry.col in omega arith); l = bad.l; d = bad.d; factors = bad.factors; units = bad.units; bad = bad.bad }))
+        j (omega arith)))
+      where
+        leading : j < i → IsLdl m (j + 1) r (view UnitLower x) (view Diagonal x)
+        leading below = record {
+          lower = IsUnitLower-view (j + 1) x;
+          diagonal = IsDiagonal-view (j + 1) x;
+          equation = λ a b level row. Cong-trans (Cong-from_same (product-views (j + 1) x a b level row))
+              (before a b (lower_entry n a b level (omega (arith, entry.col))) (row_first n a b i j (omega (arith, entry.col)) (omega arith)));
+        }
+
+    found : Solution m (IsEntry n n Lower) (λ w i j. Cong m (ldl_left w i j) (r i j)) other
+    found = solution m (IsEntry n n Lower) (rowwise n (λ k. k) (λ k. k)) ldl_left pivot_of (IsSystem-ldl m n) r other two (IsEntry-or_not n n Lower) units
