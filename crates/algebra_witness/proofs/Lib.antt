@@ -1,1 +1,3 @@
+mod LowerSolve
+mod LuSteps
 mod Slices

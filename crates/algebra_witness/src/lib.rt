@@ -2,4 +2,6 @@
 #![tactic(auto)]
 
 pub mod dot;
+pub mod factorization;
 pub mod parts;
+pub mod substitution;
