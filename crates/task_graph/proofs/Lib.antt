@@ -1,0 +1,9 @@
+pub mod EarlierTasks
+pub mod Joined
+pub mod NeedsFirst
+pub mod TasksExist
+pub mod TasksInOrder
+pub mod TasksSorted
+pub mod Terms
+pub mod WorkBlocks
+mod WorkedTasks

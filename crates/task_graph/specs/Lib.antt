@@ -1,0 +1,6 @@
+pub mod Classes
+pub mod Factors
+pub mod Listing
+pub mod Needs
+pub mod Order
+pub mod Tasks
