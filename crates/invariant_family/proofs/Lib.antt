@@ -1,0 +1,8 @@
+pub mod Filters
+pub mod FlatMaps
+pub mod Numbering
+pub mod Subsets
+pub mod Variants
+pub mod GrowingSets
+mod WorkedRows
+mod WorkedVariants

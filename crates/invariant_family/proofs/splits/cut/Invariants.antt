@@ -1,0 +1,9 @@
+use Rattle.std.proofs.Common.{◌≡◌, map, if◌then◌else◌}
+use Rattle.task_graph.specs.Order.{numbers_below}
+use Rattle.task_graph.specs.declared.cut.Sides.TheVariants.{One}
+use Rattle.invariant_family.specs.Splits.{is_split, dir_of}
+use Rattle.invariant_family.specs.Sides.{middle_on}
+use Rattle.invariant_family.proofs.splits.cut.Given as goal
+
+abbrev pub invariant-loop-dim : goal.invariant-loop-dim
+invariant-loop-dim l = l.cut ≡ map (λ d. if is_split l.split d then middle_on l.side (dir_of l.split l.dirs d) else One) (numbers_below l.dim)

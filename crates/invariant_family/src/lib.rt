@@ -1,0 +1,15 @@
+//! Families of loop invariants: for each split of an operation's dimensions and each direction, the sets of
+//! block tasks that a loop can keep done.
+#![tactic(auto)]
+
+mod families;
+pub mod laws;
+mod rules;
+mod splits;
+#[cfg(test)]
+mod tests;
+mod variant;
+mod walk;
+
+pub use families::family;
+pub use variant::Variant;
