@@ -1,0 +1,2 @@
+pub mod FamilyTexts
+pub mod TaskTexts
