@@ -7,6 +7,9 @@ use Rattle.residue_sums.specs.Grids.{entry}
 use Rattle.byte_texts.specs.MatrixTexts.{matrix_text}
 use Rattle.flame_top.specs.declared.command.Command.TheVariants.{Run}
 use Rattle.flame_top.specs.EarlyTexts.{spelling}
+use Rattle.invariant_family.specs.Families.{single_family_of}
+use Rattle.variant_report.specs.FamilyTexts.{family_text}
+use Rattle.flame_top.specs.EarlyOperation.{early_operation}
 use Rattle.flame_top.specs.Words.{words_of}
 
 -- 1 + 2 * 3 modulo 7 is 0
@@ -38,3 +41,9 @@ spelled_job = refl
 spelled_words : words_of (Run (record { block = 1024; workers = 1 })) ≡ codes "run" ∷ codes "--block" ∷ codes "1024" ∷ codes "--workers" ∷ codes "1" ∷ []
 unfolding digits
 spelled_words = refl
+
+-- the family of the stated operation, along single dimensions
+printed_family : family_text early_operation (single_family_of early_operation)
+    ≡ codes "operation mul\nvariants 6\n1 split m forward : term1(0,0,0)\n2 split m backward : term1(1,0,0)\n3 split n forward : term1(0,0,0)\n4 split n backward : term1(0,1,0)\n5 split k forward : term1(0,0,0)\n6 split k backward : term1(0,0,1)\n"
+unfolding digits early_operation
+printed_family = refl

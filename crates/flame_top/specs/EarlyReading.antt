@@ -1,6 +1,6 @@
 -- Reading an early text from left to right, as the code does. The text itself is defined in EarlyTexts; two laws join
 -- the two: what is read is spelled so, and what is spelled so is read.
-use Rattle.std.specs.Prelude.{ℕ, zero, suc, ◌*◌, ◌^◌, List, [], ◌∷◌, length, Result, Ok, Option, Some, None, Bool, ◌&&◌, nat_lt, nat_le, ◌==◌, codes}
+use Rattle.std.specs.Prelude.{ℕ, zero, suc, ◌*◌, ◌^◌, List, [], ◌∷◌, length, Result, Ok, Option, Some, None, Bool, ◌&&◌, nat_lt, nat_le, ◌==◌, if◌then◌else◌, codes}
 use Rattle.residue_sums.specs.Grids.{Grid}
 use Rattle.byte_texts.specs.Decimals.{decimal_at}
 use Rattle.byte_texts.specs.MatrixTexts.{entry_end}
@@ -61,11 +61,27 @@ body_at m bytes = do
   rest ← literal_at NotBuilt statement_text second.1
   kept_if NotBuilt (length rest == 0 && are_conformable work.0 first.0 second.0) (record { modulus = m; work = work.0; first = first.0; second = second.0 })
 
--- the whole text
-unfoldable pub job_at : List ℕ → Result ProductJob EarlyFault
-job_at bytes = do
+-- the first nine lines: the modulus, and the bytes behind them
+unfoldable pub opening_at : List ℕ → Reading ℕ
+opening_at bytes = do
   head ← literal_at NotBuilt head_text bytes
   m ← number_at 10 head
   modulus ← kept_if NotBuilt (nat_le 2 m.0 && nat_lt m.0 (2 ^ 32)) m.0
-  matrices ← literal_at NotBuilt operation_text m.1
-  body_at modulus matrices
+  rest ← literal_at NotBuilt operation_text m.1
+  Ok (modulus, rest)
+
+-- the whole text
+unfoldable pub job_at : List ℕ → Result ProductJob EarlyFault
+job_at bytes = do
+  opening ← opening_at bytes
+  body_at opening.0 opening.1
+
+-- nothing behind the first nine lines, or what makes a whole text with them
+unfoldable pub end_or_body_at : ℕ → List ℕ → Result (Unit {0}) EarlyFault
+end_or_body_at m bytes = if length bytes == 0 then Ok tt else (body_at m bytes >>= λ job. Ok tt)
+
+-- the first nine lines alone, or the whole text
+unfoldable pub operation_at : List ℕ → Result (Unit {0}) EarlyFault
+operation_at bytes = do
+  opening ← opening_at bytes
+  end_or_body_at opening.0 opening.1

@@ -1,6 +1,6 @@
 -- The early text, the one form of job that is read so far: a job that adds one product. Its one spelling, and which
 -- jobs have one.
-use Rattle.std.specs.Prelude.{◌≡◌, ℕ, ◌≤◌, List, ◌++◌, codes, decimal}
+use Rattle.std.specs.Prelude.{◌≡◌, ◌⊎◌, ℕ, ◌≤◌, List, ◌++◌, codes, decimal}
 use Rattle.residue_sums.specs.Residues.{IsModulus}
 use Rattle.residue_sums.specs.Grids.{Grid, IsFull, AreResidues}
 use Rattle.byte_texts.specs.MatrixTexts.{matrix_text}
@@ -18,9 +18,13 @@ operation_text = codes "operation mul\ndims m n k\nwork W general m n\nknown A g
 abbrev pub statement_text : List ℕ
 statement_text = codes "do mul W A B\nprint W\n"
 
+-- the first nine lines, which state the operation
+abbrev pub opening_text : ℕ → List ℕ
+opening_text m = head_text ++ decimal m ++ codes "\n" ++ operation_text
+
 -- the one spelling of a job
 abbrev pub spelling : ProductJob → List ℕ
-spelling job = head_text ++ decimal job.modulus ++ codes "\n" ++ operation_text
+spelling job = opening_text job.modulus
     ++ matrix_text (codes "W") job.work ++ matrix_text (codes "A") job.first ++ matrix_text (codes "B") job.second
     ++ statement_text
 
@@ -48,3 +52,11 @@ pub record IsValid (job : ProductJob) : Type 0 where
 -- the bytes are a text of the job
 abbrev pub Spells : List ℕ → ProductJob → Type 0
 Spells bytes job = IsValid job × (bytes ≡ spelling job)
+
+-- the bytes are the first nine lines of a text
+abbrev pub IsOpening : List ℕ → Type 0
+IsOpening bytes = (m : ℕ) × IsModulus m × (bytes ≡ opening_text m)
+
+-- the bytes state the operation: in the first nine lines alone, or in a whole text
+abbrev pub StatesOperation : List ℕ → Type 0
+StatesOperation bytes = IsOpening bytes ⊎ ((job : ProductJob) × Spells bytes job)

@@ -1,5 +1,6 @@
 pub mod Answers
 pub mod Due
+pub mod EarlyOperation
 pub mod EarlyReading
 pub mod EarlyTexts
 pub mod Equation

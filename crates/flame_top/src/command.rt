@@ -17,6 +17,8 @@ pub struct RunWords {
 /// What the words ask for.
 #[derive(Clone, Copy, Debug, PartialEq, Eq)]
 pub enum Command {
+    /// `derive`: prints the family of the operation that the input states.
+    Derive,
     /// `run --block B --workers K`: runs the job of the input.
     Run { words: RunWords },
 }
@@ -64,10 +66,21 @@ fn run_of(
     Some(Command::Run { words })
 }
 
+fn derive_of(derive: &str) -> Option<Command>
+    ensures { MatchOption result (AreBad (derive.now ∷ [])) (AreWordsOf (derive.now ∷ [])) }
+{
+    if derive == "derive" {
+        Some(Command::Derive)
+    } else {
+        None
+    }
+}
+
 fn command_of(words: &[String]) -> Option<Command>
     ensures { MatchOption result (AreBad (map string_bytes words.now)) (AreWordsOf (map string_bytes words.now)) }
 {
     match words {
+        [derive] => derive_of(derive.as_str()),
         [run, block_word, block, workers_word, workers] => run_of(
             run.as_str(),
             block_word.as_str(),

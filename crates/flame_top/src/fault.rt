@@ -3,12 +3,12 @@ ghost use Rattle.flame_top.specs.declared.fault.EarlyFault.TheVariants.{Memory};
 
 use std::alloc::{AllocError, AllocFailed};
 
-/// Why an input was not read as a job.
+/// Why an input was not read as a job, or as the operation that it states.
 #[derive(Clone, Copy, Debug, PartialEq, Eq)]
 pub enum EarlyFault {
     /// Memory ran out.
     Memory,
-    /// The input is not the text of a job that this program can run.
+    /// The input is no early text of the kind that the command reads.
     NotBuilt,
 }
 

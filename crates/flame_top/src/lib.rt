@@ -1,8 +1,9 @@
 //! The call that does all that the program does.
 //!
 //! The words name a command (`command`). A command that reads input takes it whole, reads it as a job
-//! (`reading`), computes (`product`) and composes its whole output (`output`, `writing`) before the
-//! first byte is written (`run`). `top` joins them; `laws` says that what is due is determined.
+//! (`reading`) or as the operation that it states (`operation`), computes (`product`) or derives, and composes
+//! its whole output (`output`, `writing`) before the first byte is written (`run`). `top` joins them; `laws` says
+//! that what is due is determined.
 #![tactic(auto)]
 
 mod answer;
@@ -10,6 +11,7 @@ mod command;
 mod fault;
 mod job;
 mod laws;
+mod operation;
 mod output;
 mod product;
 mod reading;
@@ -21,7 +23,7 @@ pub use command::{Command, RunWords, read_words};
 pub use fault::EarlyFault;
 pub use job::ProductJob;
 pub use laws::{due_is_determined, early_text_spells_one_job};
-pub use run::run_one_cmd;
+pub use run::{derive_cmd, run_one_cmd};
 
 #[cfg(test)]
 mod tests;

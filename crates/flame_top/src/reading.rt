@@ -1,10 +1,10 @@
-ghost use Rattle.std.specs.Prelude.{◌≡◌, ◌∷◌, [], ◌<◌, ◌≤◌, ◌*◌, IfOk, IsErrOf};
+ghost use Rattle.std.specs.Prelude.{◌≡◌, ◌∷◌, [], ◌<◌, ◌≤◌, ◌*◌, IfOk, OnOk, IsErrOf};
 ghost use Rattle.byte_texts.specs.MatrixTexts.{entry_end};
 ghost use Rattle.byte_texts.specs.Reading.{Gives, literal_at};
 ghost use Rattle.flame_top.specs.declared.fault.EarlyFault.TheVariants.{NotBuilt};
 ghost use Rattle.flame_top.specs.declared.job.ProductJob.{ProductJob};
-ghost use Rattle.flame_top.specs.EarlyReading.{text_fault, number_at, entries_at, matrix_at, are_conformable, body_at, job_at};
-ghost use Rattle.flame_top.specs.EarlyTexts.{Spells};
+ghost use Rattle.flame_top.specs.EarlyReading.{text_fault, number_at, entries_at, matrix_at, are_conformable, body_at, opening_at, job_at, end_or_body_at, operation_at};
+ghost use Rattle.flame_top.specs.EarlyTexts.{Spells, StatesOperation};
 
 use crate::fault::EarlyFault;
 use crate::job::ProductJob;
@@ -128,9 +128,10 @@ fn body(alloc: Global, modulus: Modulus, bytes: &[u8]) -> Result<ProductJob, Ear
     })
 }
 
-#[tactic(auto, unfolding(crate::specs::EarlyReading::job_at))]
-fn job(alloc: Global, bytes: &[u8]) -> Result<ProductJob, EarlyFault>
-    ensures { Gives text_fault (λ x. x) result (job_at bytes.now) }
+/// The first nine lines: the modulus, and the bytes behind them.
+#[tactic(auto, unfolding(crate::specs::EarlyReading::opening_at))]
+fn opening(bytes: &[u8]) -> Result<(Modulus, &[u8]), EarlyFault>
+    ensures { Gives text_fault (λ x. (x.0, x.1.now)) result (opening_at bytes.now) }
 {
     let rest = literal(bytes, HEAD)?;
     let (m, rest) = number(rest, b'\n')?;
@@ -138,7 +139,48 @@ fn job(alloc: Global, bytes: &[u8]) -> Result<ProductJob, EarlyFault>
         return Err(EarlyFault::NotBuilt);
     };
     let rest = literal(rest, OPERATION)?;
-    Ok(body(alloc, modulus, rest)?)
+    Ok((modulus, rest))
+}
+
+#[tactic(auto, unfolding(crate::specs::EarlyReading::job_at))]
+fn job(alloc: Global, bytes: &[u8]) -> Result<ProductJob, EarlyFault>
+    ensures { Gives text_fault (λ x. x) result (job_at bytes.now) }
+{
+    match opening(bytes) {
+        Ok((modulus, rest)) => Ok(body(alloc, modulus, rest)?),
+        Err(fault) => Err(fault),
+    }
+}
+
+/// Whether nothing is behind the first nine lines, or what makes a whole text with them.
+#[tactic(auto, unfolding(crate::specs::EarlyReading::end_or_body_at))]
+fn end_or_body(alloc: Global, modulus: Modulus, bytes: &[u8]) -> Result<(), EarlyFault>
+    ensures { Gives text_fault (λ _. tt) result (end_or_body_at modulus bytes.now) }
+{
+    if !bytes.is_empty() {
+        let _job = body(alloc, modulus, bytes)?;
+    }
+    Ok(())
+}
+
+/// Whether the bytes are the first nine lines alone, or a whole text.
+#[tactic(auto, unfolding(crate::specs::EarlyReading::operation_at))]
+fn operation(alloc: Global, bytes: &[u8]) -> Result<(), EarlyFault>
+    ensures { Gives text_fault (λ _. tt) result (operation_at bytes.now) }
+{
+    match opening(bytes) {
+        Ok((modulus, rest)) => Ok(end_or_body(alloc, modulus, rest)?),
+        Err(fault) => Err(fault),
+    }
+}
+
+/// Reads the operation that the bytes state, in the first nine lines of a text alone or in a whole text.
+/// Its errors are want of memory, and `NotBuilt` exactly where the bytes state none.
+pub fn read_stated(alloc: Global, bytes: &[u8]) -> Result<(), EarlyFault>
+    ensures found { OnOk result (StatesOperation bytes.now) }
+    ensures refused { IsErrOf result EarlyFault.NotBuilt → StatesOperation bytes.now → ⊥ }
+{
+    operation(alloc, bytes)
 }
 
 /// The job that the bytes are a text of. Its errors are want of memory, and `NotBuilt` exactly where the

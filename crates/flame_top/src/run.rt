@@ -1,10 +1,11 @@
 ghost use Rattle.std.specs.Prelude.{◌≡◌, ◌⊎◌};
 ghost use Rattle.std.specs.Io.KnownBytes.{IsAtEnd};
+ghost use Rattle.flame_top.specs.Words.{AsksFamilies, AsksRun};
 ghost use Rattle.flame_top.specs.Due.{DueCommand};
 ghost use Rattle.flame_top.specs.Answers.{Answers, IsDueStatus, Delivers, state_of};
 
 use crate::command::Command;
-use crate::output::{Halt, run_output};
+use crate::output::{Halt, command_output};
 use outside_io::{Failed, Sink, Source, write_all};
 use std::alloc::Global;
 
@@ -16,6 +17,26 @@ pub fn deliver<K: Sink>(sink: &mut K, status: u8, text: &[u8]) -> u8
     match write_all(sink, text) {
         Ok(()) => status,
         Err(Failed) => 6,
+    }
+}
+
+/// Reads the source to its end, composes the output of the command, and writes it.
+fn answer_command<S: Source, K: Sink>(
+    alloc: Global,
+    command: Command,
+    source: &mut S,
+    sink: &mut K,
+) -> u8
+    ensures answers { Answers (DueCommand command)
+        (state_of S.left S.faults source.old) (state_of S.left S.faults source.new)
+        (state_of K.held K.faults sink.old) (state_of K.held K.faults sink.new) result }
+    ensures ended { result ≡ 0 → IsAtEnd (S.left source.new) }
+    ensures untouched { (result ≡ 1) ⊎ (result ≡ 5) → sink.new ≡ sink.old }
+{
+    match command_output(alloc, command, source) {
+        Ok(output) => deliver(sink, output.status, &output.text),
+        Err(Halt::Memory) => 5,
+        Err(Halt::ReadFault) => 1,
     }
 }
 
@@ -33,16 +54,31 @@ pub fn run_one_cmd<S: Source, K: Sink>(
     source: &mut S,
     sink: &mut K,
 ) -> u8
+    requires { AsksRun command.now }
     ensures answers { Answers (DueCommand command.now)
         (state_of S.left S.faults source.old) (state_of S.left S.faults source.new)
         (state_of K.held K.faults sink.old) (state_of K.held K.faults sink.new) result }
     ensures ended { result ≡ 0 → IsAtEnd (S.left source.new) }
     ensures untouched { (result ≡ 1) ⊎ (result ≡ 5) → sink.new ≡ sink.old }
 {
-    let Command::Run { words: _ } = command;
-    match run_output(alloc, source) {
-        Ok(output) => deliver(sink, output.status, &output.text),
-        Err(Halt::Memory) => 5,
-        Err(Halt::ReadFault) => 1,
-    }
+    answer_command(alloc, *command, source, sink)
+}
+
+/// Prints the family of loop invariants of the operation that the input states: reads the source to its
+/// end, derives, and writes one line for each variant. It answers the status, whose causes are those of
+/// `run_one_cmd`; `refused NotBuilt` comes where the input states no operation that can be derived so far.
+pub fn derive_cmd<S: Source, K: Sink>(
+    alloc: Global,
+    command: &Command,
+    source: &mut S,
+    sink: &mut K,
+) -> u8
+    requires { AsksFamilies command.now }
+    ensures answers { Answers (DueCommand command.now)
+        (state_of S.left S.faults source.old) (state_of S.left S.faults source.new)
+        (state_of K.held K.faults sink.old) (state_of K.held K.faults sink.new) result }
+    ensures ended { result ≡ 0 → IsAtEnd (S.left source.new) }
+    ensures untouched { (result ≡ 1) ⊎ (result ≡ 5) → sink.new ≡ sink.old }
+{
+    answer_command(alloc, *command, source, sink)
 }

@@ -202,3 +202,26 @@ fn faults_and_bad_words_are_told(rt: HostRuntime) -> Result<(), Fail> {
     }
     Ok(())
 }
+
+const FAMILY: &str =
+    "operation mul\nvariants 6\n1 split m forward : term1(0,0,0)\n2 split m backward : term1(1,0,0)\n3 split n forward : term1(0,0,0)\n4 split n backward : term1(0,1,0)\n5 split k forward : term1(0,0,0)\n6 split k backward : term1(0,0,1)\n";
+
+#[test]
+fn families_are_printed(rt: HostRuntime) -> Result<(), Fail> {
+    let alloc = rt.alloc();
+    let cases: [(&[&str], u8, &str); 7] = [
+        (&[HEAD, OPERATION], 0, FAMILY),
+        (&["flame 1\nmodulus 4294967295\n", OPERATION], 0, FAMILY),
+        (&[HEAD, OPERATION, SMALL, TAIL], 0, FAMILY),
+        (&[], 3, REFUSED),
+        (&["flame 1\nmodulus 1\n", OPERATION], 3, REFUSED),
+        (&[HEAD, OPERATION, "\n"], 3, REFUSED),
+        (&[HEAD, OPERATION, SMALL], 3, REFUSED),
+    ];
+    for (i, (parts, status, text)) in cases.iter().enumerate() {
+        let given = answered(alloc, &["derive"], joined(alloc, parts)?, &[], &[])?;
+        assert_eq!(rt; given.status, *status, "case {i}");
+        assert_eq!(rt; given.text.as_slice(), text.as_bytes(), "case {i}");
+    }
+    Ok(())
+}

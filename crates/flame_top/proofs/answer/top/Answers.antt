@@ -8,6 +8,10 @@ returns-in-Ok-None-clause-answers g c =
     answers_from_Delivers _ _ _ _ _ 2 _ c.deliver.result (λ e. omega arith, λ e. omega arith, λ e. omega arith)
     (input.0, input.1, inl (rw c.in-Ok-None.field-0-is at c.in-Ok-None.ensures.none, (refl, refl))) refl (nothing_taken (g.S.Source.left c.args.source.now)) c.deliver.ensures
 
-pub returns-in-Ok-Some-clause-answers : goal.returns-in-Ok-Some-clause-answers
-returns-in-Ok-Some-clause-answers g c =
+pub returns-in-Derive-clause-answers : goal.returns-in-Derive-clause-answers
+returns-in-Derive-clause-answers g c =
+    Answers-wider _ _ (λ input status text is. inr (c.in-Ok-Some.command, rw c.in-Ok-Some.field-0-is at c.in-Ok-Some.ensures.found, is)) _ _ _ _ _ c.derive_cmd.ensures.answers
+
+pub returns-in-Run-clause-answers : goal.returns-in-Run-clause-answers
+returns-in-Run-clause-answers g c =
     Answers-wider _ _ (λ input status text is. inr (c.in-Ok-Some.command, rw c.in-Ok-Some.field-0-is at c.in-Ok-Some.ensures.found, is)) _ _ _ _ _ c.run_one_cmd.ensures.answers
