@@ -1,10 +1,36 @@
-//! Names, as texts have them.
+//! Tokens of a text: names, numbers and signs, each a slice of the source with its line.
+//!
+//! `scan` answers the tokens of bytes in order, or the first bad byte (`specs/Tokens`). They are all that the
+//! bytes have, which is said place by place (`specs/Tokenization`). Readers above go line by line
+//! (`split_line`); what they see of a line is its number and the texts of its tokens (`specs/Lines`,
+//! `specs/Words`). What they print has one spelling (`specs/NormalTexts`), and scanning it gives the same
+//! lines back.
 #![tactic(auto)]
 
+pub mod laws;
+mod lines;
+mod scanner;
+mod token;
+mod words;
+
 use item_lists::ItemList;
+pub use lines::{TextEnd, TokenLine, due_line, end_line, inner_line, split_line};
+pub use scanner::scan;
+pub use token::{Front, ScanFault, Token, TokenKind};
+pub use words::number;
 
 /// The bytes of a name.
 pub type Name = ItemList<u8>;
 
 /// Names in their order.
 pub type NameList = ItemList<Name>;
+
+/// Where the second part of an input begins, or its end: the byte's place, from 0, and its line's number.
+#[derive(Clone, Copy, Debug, PartialEq, Eq)]
+pub struct Rest {
+    pub at: u32,
+    pub line: u32,
+}
+
+#[cfg(test)]
+mod tests;
