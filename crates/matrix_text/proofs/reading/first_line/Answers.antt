@@ -1,0 +1,7 @@
+use Rattle.std.proofs.Common.{sym}
+use Rattle.text_scan.specs.Words.{word}
+use Rattle.matrix_text.proofs.WordLists.{heading_words}
+use Rattle.matrix_text.proofs.reading.first_line.Goals as goal
+
+pub shape_of-requires-in-len4-clause-cols_number : goal.shape_of-requires-in-len4-clause-cols_number
+shape_of-requires-in-len4-clause-cols_number c = (heading_words (word c.args.bytes.now) c.args.line.tokens.now (sym c.if-is_first_line.ensures)).cols_number _
