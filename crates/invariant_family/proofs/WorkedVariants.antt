@@ -1,13 +1,11 @@
 -- Variants of small operations, computed from the definitions and held against lines worked by hand.
-use Rattle.std.proofs.Common.{◌≡◌, ℕ, List, [], ◌∷◌, Bool, true, false, map, refl, Some, None, slice_index_or}
-use Rattle.std.specs.Prelude.{codes}
-use Rattle.structure_rules.specs.declared.Structure.TheVariants.{General, Lower, UnitLower, Upper}
+use Rattle.std.proofs.Common.{◌≡◌, ℕ, List, [], ◌∷◌, map, refl, Some, None, slice_index_or}
 use Rattle.operation_spec.specs.declared.operation.Operation.{Operation}
-use Rattle.operation_spec.specs.declared.operation.Form.TheVariants as forms
 use Rattle.operation_spec.specs.declared.task.Kind.TheVariants as kinds
 use Rattle.operation_spec.specs.declared.task.Task.{Task}
 use Rattle.operation_spec.specs.declared.split.Dir.{Dir}
 use Rattle.operation_spec.specs.declared.split.Dir.TheVariants.{Forward, Backward}
+use Rattle.operation_spec.proofs.WorkedOperations.{low, low_primed, prod}
 use Rattle.task_graph.specs.Order.{task_of}
 use Rattle.invariant_family.specs.declared.variant.Variant.{Variant}
 use Rattle.invariant_family.specs.Families.{family_of, single_family_of}
@@ -27,32 +25,10 @@ single number d dir kept = record { number = number; split = record { first = d;
 pair : ℕ → Dir → Dir → List Task → Variant
 pair number first second kept = record { number = number; split = record { first = 0; second = Some 1 }; dirs = record { first = first; second = second }; kept = kept }
 
--- T * X = W with a lower T, primed or not
-low : Bool → Operation
-low primed = record {
-  name = codes "low";
-  dims = codes "n" ∷ codes "m" ∷ [];
-  work = record { name = codes "W"; structure = General; rows = 0; cols = 1 };
-  knowns = record { name = codes "T"; structure = Lower; rows = 0; cols = 0 } ∷ [];
-  form = forms.Left (record { known = 0; primed = primed });
-  terms = [];
-}
-
--- X = W + L * U
-prod : Operation
-prod = record {
-  name = codes "prod";
-  dims = codes "n" ∷ [];
-  work = record { name = codes "W"; structure = General; rows = 0; cols = 0 };
-  knowns = record { name = codes "L"; structure = UnitLower; rows = 0; cols = 0 } ∷ record { name = codes "U"; structure = Upper; rows = 0; cols = 0 } ∷ [];
-  form = forms.Assign;
-  terms = record { minus = false; first = record { known = 0; primed = false }; second = record { known = 1; primed = false } } ∷ [];
-}
-
 variant : Operation → ℕ → Variant
 variant op place = slice_index_or (family_of op) place (single 0 0 Forward [])
 
-low_lines : variant (low false) 0 ∷ variant (low false) 1 ∷ variant (low false) 2 ∷ variant (low false) 3 ∷ variant (low false) 4 ∷ variant (low false) 20 ∷ variant (low false) 21 ∷ []
+low_lines : variant low 0 ∷ variant low 1 ∷ variant low 2 ∷ variant low 3 ∷ variant low 4 ∷ variant low 20 ∷ variant low 21 ∷ []
     ≡ single 1 0 Forward (solve 0 0 ∷ [])
     ∷ single 2 0 Forward (solve 0 0 ∷ left 1 0 0 ∷ [])
     ∷ single 3 1 Forward (solve 0 0 ∷ [])
@@ -65,12 +41,12 @@ unfolding low solve left single pair variant
 low_lines = refl
 
 -- the transpose is solved from the last row
-low_primed_lines : variant (low true) 1 ∷ variant (low true) 4 ∷ variant (low true) 5 ∷ []
+low_primed_lines : variant low_primed 1 ∷ variant low_primed 4 ∷ variant low_primed 5 ∷ []
     ≡ single 2 0 Backward (solve 1 0 ∷ left 0 0 1 ∷ [])
     ∷ pair 5 Forward Forward (solve 1 0 ∷ left 0 0 1 ∷ solve 0 0 ∷ [])
     ∷ pair 6 Forward Backward (solve 1 1 ∷ left 0 1 1 ∷ solve 0 1 ∷ [])
     ∷ []
-unfolding low solve left single pair variant
+unfolding low_primed solve left single pair variant
 low_primed_lines = refl
 
 -- five sets forward, and then five backward

@@ -6,10 +6,33 @@
 //! or with `-`, `L * U = R`, or `L * D * L' = R`, where R is W with the terms added.
 #![tactic(auto)]
 
+mod block_lines;
+mod declarations;
+mod equation;
+mod equation_checks;
+mod equation_sizes;
+mod equation_words;
+mod equation_writing;
+mod fault;
+mod forms;
+pub mod laws;
+mod left_sides;
+mod marked_tokens;
+mod names;
+mod operand_lines;
 mod operation;
+mod reading;
 mod split;
 mod task;
+mod words;
+mod writing;
 
+pub use fault::SpecFault;
 pub use operation::{Binding, Factor, Form, Operand, OperandList, Operation, Term, TermList};
-pub use split::{Dir, Dirs, Split};
+pub use reading::read_operation;
+pub use split::{Dir, Dirs, Split, valid_split};
 pub use task::{Kind, Task, TaskList};
+pub use writing::write_operation;
+
+#[cfg(test)]
+mod tests;

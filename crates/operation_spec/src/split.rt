@@ -1,3 +1,8 @@
+ghost use Rattle.std.specs.Prelude.{◌↔◌, IsTrue};
+ghost use Rattle.operation_spec.specs.Splits.{IsSplit};
+
+use crate::operation::Operation;
+
 /// One dimension, or two different ones in declared order, that a loop goes along.
 #[derive(Clone, Copy, Debug, PartialEq, Eq)]
 pub struct Split {
@@ -18,4 +23,15 @@ pub enum Dir {
 pub struct Dirs {
     pub first: Dir,
     pub second: Dir,
+}
+
+/// Whether the operation has the split: its dimensions exist, and the second is declared after the first.
+pub fn valid_split(op: &Operation, split: Split) -> bool
+    ensures { IsTrue result ↔ IsSplit op.now split }
+{
+    let count = op.dims.len();
+    match split.second {
+        None => (split.first as usize) < count,
+        Some(d) => split.first < d && (d as usize) < count,
+    }
 }

@@ -1,11 +1,9 @@
 -- The tasks of small operations and their needs, computed from the definitions and held against lists worked by hand.
-use Rattle.std.proofs.Common.{◌≡◌, ℕ, List, [], ◌∷◌, Bool, true, false, filter, map, refl}
-use Rattle.std.specs.Prelude.{codes}
-use Rattle.structure_rules.specs.declared.Structure.TheVariants.{General, Lower, Upper, Symmetric}
+use Rattle.std.proofs.Common.{◌≡◌, ℕ, List, [], ◌∷◌, filter, map, refl}
 use Rattle.operation_spec.specs.declared.operation.Operation.{Operation}
-use Rattle.operation_spec.specs.declared.operation.Form.TheVariants as forms
 use Rattle.operation_spec.specs.declared.task.Kind.TheVariants as kinds
 use Rattle.operation_spec.specs.declared.task.Task.{Task}
+use Rattle.operation_spec.proofs.WorkedOperations.{lu, ldl, sym, low_right, syl_lower}
 use Rattle.task_graph.specs.Order.{task_of, tasks_of}
 use Rattle.task_graph.specs.Needs.{does_need}
 
@@ -17,61 +15,6 @@ left i j k = task_of kinds.Left 0 i j k
 
 right : ℕ → ℕ → ℕ → Task
 right i j k = task_of kinds.Right 0 i j k
-
--- lu X = W
-lu : Operation
-lu = record {
-  name = codes "lu";
-  dims = codes "n" ∷ [];
-  work = record { name = codes "W"; structure = General; rows = 0; cols = 0 };
-  knowns = [];
-  form = forms.Lu;
-  terms = [];
-}
-
--- ldl X = W
-ldl : Operation
-ldl = record {
-  name = codes "ldl";
-  dims = codes "n" ∷ [];
-  work = record { name = codes "W"; structure = Lower; rows = 0; cols = 0 };
-  knowns = [];
-  form = forms.Ldl;
-  terms = [];
-}
-
--- X = W + A * B with a symmetric A
-sym : Operation
-sym = record {
-  name = codes "sym";
-  dims = codes "n" ∷ codes "m" ∷ [];
-  work = record { name = codes "W"; structure = General; rows = 0; cols = 1 };
-  knowns = record { name = codes "A"; structure = Symmetric; rows = 0; cols = 0 } ∷ record { name = codes "B"; structure = General; rows = 0; cols = 1 } ∷ [];
-  form = forms.Assign;
-  terms = record { minus = false; first = record { known = 0; primed = false }; second = record { known = 1; primed = false } } ∷ [];
-}
-
--- X * T = W with a lower T, whose columns are solved from the last one
-low_right : Operation
-low_right = record {
-  name = codes "low";
-  dims = codes "n" ∷ codes "m" ∷ [];
-  work = record { name = codes "W"; structure = General; rows = 0; cols = 1 };
-  knowns = record { name = codes "T"; structure = Lower; rows = 1; cols = 1 } ∷ [];
-  form = forms.Right (record { known = 0; primed = false });
-  terms = [];
-}
-
--- T * X + X * U = W with a lower T and a lower U, whose columns descend
-syl_lower : Operation
-syl_lower = record {
-  name = codes "syl";
-  dims = codes "m" ∷ codes "n" ∷ [];
-  work = record { name = codes "W"; structure = General; rows = 0; cols = 1 };
-  knowns = record { name = codes "T"; structure = Lower; rows = 0; cols = 0 } ∷ record { name = codes "U"; structure = Lower; rows = 1; cols = 1 } ∷ [];
-  form = forms.Sylvester (record { known = 0; primed = false }) (record { known = 1; primed = false }) true;
-  terms = [];
-}
 
 needs_of : Operation → List ℕ → Task → List Task
 needs_of op counts task = filter (does_need op task) (tasks_of op counts)

@@ -1,0 +1,95 @@
+-- Lines of known operands, one after another.
+use Rattle.std.proofs.Common.{◌≡◌, ℕ, Bool, true, false, cond, ◌==◌, List, [], ◌∷◌, ◌++◌, ◌-◌, length, take, drop, codes, Result, Ok, Err, Option, Some, None, refl, sym, ap, ◌∙◌, append_assoc, length-append, arith}
+use Rattle.std.proofs.lemmas.Bool.{eqb-true}
+use Rattle.std.proofs.lemmas.List.{take-append-drop, drop_at}
+use Rattle.byte_texts.specs.Reading.{◌>>=◌, EndsWith}
+use Rattle.text_scan.specs.declared.lines.TokenLine.{TokenLine}
+use Rattle.text_scan.specs.declared.token.Token.{Token}
+use Rattle.text_scan.specs.Lines.{Line, inner_line}
+use Rattle.text_scan.specs.Scanned.{AreTokens}
+use Rattle.text_scan.proofs.TokenParts.{AreTokens-front, AreTokens-back}
+use Rattle.operation_spec.specs.declared.fault.SpecFault.{SpecFault}
+use Rattle.operation_spec.specs.declared.fault.SpecFault.TheVariants.{Syntax}
+use Rattle.operation_spec.specs.declared.operation.Operand.{Operand}
+use Rattle.operation_spec.specs.OperationFaults.{Knowns, begins_with, known_at, knowns_at, or_syntax}
+use Rattle.operation_spec.specs.TokenLines.{HasEnd, IsLineOf}
+
+-- ---- tokens of lines
+
+-- both parts of a line are tokens of the text
+pub line_parts : (bytes : List ℕ) (tokens : List Token) (line : TokenLine) → AreTokens 1 bytes tokens → tokens ≡ line.tokens.now ++ line.rest.now → IsLineOf bytes tokens line
+line_parts bytes tokens line are split = record { split = split; own = AreTokens-front line.tokens.now line.rest.now split are; rest = AreTokens-back line.tokens.now line.rest.now split are }
+
+-- tokens end in what is behind a line of those that they end in
+pub end_behind : (tokens rest next : List Token) (own : List Token) → HasEnd tokens rest → rest ≡ own ++ next → HasEnd tokens next
+end_behind tokens rest next own end split = record { front = end.front ++ own; split = end.split ∙ ap (λ ts. end.front ++ ts) split ∙ sym (append_assoc end.front own next) }
+
+pub end_of_line : (tokens own rest : List Token) → tokens ≡ own ++ rest → HasEnd tokens rest
+end_of_line tokens own rest split = record { front = own; split = split }
+
+pub ends_in_end : (tokens rest next : List Token) → HasEnd tokens rest → HasEnd rest next → HasEnd tokens next
+ends_in_end tokens rest next end more = end_behind tokens rest next more.front end more.split
+
+-- where what they end in begins
+pub end_place : (tokens rest : List Token) (at count : ℕ) → count ≡ length tokens → HasEnd (drop at tokens) rest → drop (count - length rest) tokens ≡ rest
+end_place tokens rest at count is end =
+    let front = take at tokens ++ end.front in
+    let split : tokens ≡ front ++ rest = sym (take-append-drop at tokens) ∙ ap (λ back. take at tokens ++ back) end.split ∙ sym (append_assoc (take at tokens) end.front rest) in
+    let place : count - length rest ≡ length front = omega (arith, is, ap length split, length-append front rest) in
+    rw place (ap (drop (length front)) split ∙ drop_at front rest (length front) refl)
+
+-- ---- going on behind a step
+
+pub ends_first : {A B : Type 0} (fault : Option SpecFault) (r : Result A SpecFault) (f : A → Result B SpecFault) → EndsWith fault r → EndsWith fault (r >>= f)
+ends_first None r f ends = tt
+ends_first (Some fault) (Ok x) f ends = absurd cc
+ends_first (Some fault) (Err e) f ends = let same : e ≡ fault = cc in ap (λ (d : SpecFault). Err d) same
+
+pub ends_along : {A : Type 0} (fault : Option SpecFault) (r q : Result A SpecFault) → r ≡ q → EndsWith fault q → EndsWith fault r
+ends_along None r q same ends = tt
+ends_along (Some fault) r q same ends = same ∙ ends
+
+-- ---- known operands
+
+-- those from a line on
+abbrev pub knowns_from : ℕ → List (List ℕ) → Operand → List Operand → Line → List Line → Result Knowns SpecFault
+knowns_from end dims work found line lines =
+    cond (begins_with (codes "known") line.words) (known_at dims work found line >>= λ o. knowns_at end dims work (found ++ o ∷ []) lines) (Ok (record { operands = found; line = line; rest = lines }))
+
+-- they are read from the line that is due
+pub knowns_at-inner : (end : ℕ) (dims : List (List ℕ)) (work : Operand) (found : List Operand) (lines : List Line)
+    → knowns_at end dims work found lines ≡ (or_syntax (inner_line end lines) >>= λ (next : Line × List Line). knowns_from end dims work found next.0 next.1)
+unfolding knowns_at
+knowns_at-inner end dims work found [] = refl
+knowns_at-inner end dims work found (line ∷ lines) = by_test (line.number == end) refl
+  where
+    by_test : (b : Bool) → (line.number == end) ≡ b → cond b (Err (Syntax line.number)) (knowns_from end dims work found line lines)
+        ≡ (or_syntax (cond b (Err end) (Ok (line, lines))) >>= λ (next : Line × List Line). knowns_from end dims work found next.0 next.1)
+    by_test true here = ap (λ n. Err (Syntax n)) (eqb-true line.number end here)
+    by_test false other = refl
+
+-- the line that is due was found
+pub knowns_at-line : (end : ℕ) (dims : List (List ℕ)) (work : Operand) (found : List Operand) (lines rest : List Line) (line : Line) → or_syntax (inner_line end lines) ≡ Ok (line, rest)
+    → knowns_at end dims work found lines ≡ knowns_from end dims work found line rest
+knowns_at-line end dims work found lines rest line due = knowns_at-inner end dims work found lines ∙ rw due refl
+
+-- the text ends where it is due
+pub knowns_at-fault : (end : ℕ) (dims : List (List ℕ)) (work : Operand) (found : List Operand) (lines : List Line) (fault : Option SpecFault)
+    → EndsWith fault (or_syntax (inner_line end lines)) → EndsWith fault (knowns_at end dims work found lines)
+knowns_at-fault end dims work found lines fault ends = ends_along fault _ _ (knowns_at-inner end dims work found lines) (ends_first fault (or_syntax (inner_line end lines)) _ ends)
+
+-- it declares an operand more
+knowns_from-more : (end : ℕ) (dims : List (List ℕ)) (work o : Operand) (found : List Operand) (line : Line) (lines : List Line) → begins_with (codes "known") line.words ≡ true → known_at dims work found line ≡ Ok o
+    → knowns_from end dims work found line lines ≡ knowns_at end dims work (found ++ o ∷ []) lines
+knowns_from-more end dims work o found line lines known read = rw (known, read) refl
+
+-- and the line behind it was found, or the text ends there
+pub knowns_from-next : (end : ℕ) (dims : List (List ℕ)) (work o : Operand) (found : List Operand) (line next : Line) (lines rest : List Line) (all : Result Knowns SpecFault) → knowns_from end dims work found line lines ≡ all
+    → begins_with (codes "known") line.words ≡ true → known_at dims work found line ≡ Ok o → or_syntax (inner_line end lines) ≡ Ok (next, rest) → knowns_from end dims work (found ++ o ∷ []) next rest ≡ all
+knowns_from-next end dims work o found line next lines rest all so_far known read due =
+    sym (knowns_at-line end dims work (found ++ o ∷ []) lines rest next due) ∙ sym (knowns_from-more end dims work o found line lines known read) ∙ so_far
+
+pub knowns_from-end : (end : ℕ) (dims : List (List ℕ)) (work o : Operand) (found : List Operand) (line : Line) (lines : List Line) (all : Result Knowns SpecFault) (fault : Option SpecFault) → knowns_from end dims work found line lines ≡ all
+    → begins_with (codes "known") line.words ≡ true → known_at dims work found line ≡ Ok o → EndsWith fault (or_syntax (inner_line end lines)) → EndsWith fault all
+knowns_from-end end dims work o found line lines all fault so_far known read ends =
+    ends_along fault all _ (sym so_far ∙ knowns_from-more end dims work o found line lines known read) (knowns_at-fault end dims work (found ++ o ∷ []) lines fault ends)

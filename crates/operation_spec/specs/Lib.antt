@@ -1,0 +1,10 @@
+pub mod BlocksSeen
+pub mod Equations
+pub mod MarkedTokens
+pub mod OperationFaults
+pub mod OperationLines
+pub mod SizesSeen
+pub mod Splits
+pub mod TokenLines
+pub mod ValidOperations
+pub mod WordTexts

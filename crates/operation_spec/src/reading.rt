@@ -1,0 +1,107 @@
+//! Reading operation blocks, line by line.
+
+ghost use Rattle.std.specs.Prelude.{◌≡◌, ◌≤◌, length, drop, map, Ok, IfOk};
+ghost use Rattle.byte_texts.specs.Reading.{Gives};
+ghost use Rattle.text_scan.specs.Lines.{end_line_of, lines_of};
+ghost use Rattle.text_scan.specs.Scanned.{AreTokens};
+ghost use Rattle.text_scan.specs.Tokens.{tokens_of};
+ghost use Rattle.operation_spec.specs.OperationFaults.{form_of, operation_at, term_of, text_fault};
+ghost use Rattle.operation_spec.specs.TokenLines.{HasEnd};
+ghost use Rattle.operation_spec.specs.ValidOperations.{SpellsOperation};
+
+use crate::block_lines::{read_end, read_name};
+use crate::declarations::{Declarations, KnownOperands, due, inner, read_declarations};
+use crate::equation::Equation;
+use crate::equation_checks::read_equation;
+use crate::fault::SpecFault;
+use crate::forms::{form_of, terms_of};
+use crate::operation::Operation;
+use std::alloc::{AllocError, Global};
+use text_scan::{Name, Token};
+
+/// An operation, and the tokens behind its block.
+#[derive(Drop)]
+struct Block<'a> {
+    operation: Operation,
+    rest: &'a [Token],
+}
+
+/// The operation that the lines of a block say.
+fn operation_of(
+    alloc: Global,
+    name: Name,
+    declarations: Declarations<'_>,
+    e: &Equation,
+) -> Result<Operation, AllocError>
+    ensures { IfOk result (λ op. op ≡ record {
+      name = name;
+      dims = declarations.entry.dims;
+      work = declarations.entry.work;
+      knowns = declarations.entry.knowns.operands;
+      form = form_of e.now.left;
+      terms = map term_of e.now.products;
+    }) }
+{
+    let Declarations { dims, work, knowns } = declarations;
+    let KnownOperands { operands, next: _ } = knowns;
+    let terms = terms_of(alloc, e.products.as_slice())?;
+    Ok(Operation {
+        name,
+        dims,
+        work,
+        knowns: operands,
+        form: form_of(e.left),
+        terms,
+    })
+}
+
+/// Reads the lines of a block, which begins with the first of the tokens.
+#[tactic(auto, unfolding(crate::specs::OperationFaults::operation_at))]
+fn read_block<'a>(alloc: Global, bytes: &[u8], tokens: &'a [Token]) -> Result<Block<'a>, SpecFault>
+    requires short { length bytes.now ≤ 67108865 }
+    requires scanned { AreTokens 1 bytes.now tokens.now }
+    ensures read { Gives text_fault (λ block. (block.operation, lines_of bytes.now block.rest.now))
+        result (operation_at (end_line_of 1 bytes.now) (lines_of bytes.now tokens.now)) }
+    ensures end { IfOk result (λ block. HasEnd tokens.now block.rest.now) }
+{
+    let first = inner(bytes, tokens)?;
+    let name = read_name(alloc, bytes, first.number, first.tokens)?;
+    let declarations = read_declarations(alloc, bytes, first.rest)?;
+    let next = declarations.knowns.next;
+    let e = read_equation(
+        alloc,
+        bytes,
+        declarations.dims.as_slice(),
+        &declarations.work,
+        declarations.knowns.operands.as_slice(),
+        next.number,
+        next.tokens,
+    )?;
+    let last = due(bytes, next.rest)?;
+    read_end(bytes, last.number, last.tokens)?;
+    Ok(Block {
+        operation: operation_of(alloc, name, declarations, &e)?,
+        rest: last.rest,
+    })
+}
+
+/// Reads one operation block from token `at` on: the operation, and the place of the token behind the block.
+/// Its errors are want of memory, and the first fault of the text by line, and in a line in the order of
+/// `SpecFault`.
+pub fn read_operation(
+    alloc: Global,
+    bytes: &[u8],
+    tokens: &Vec<Token>,
+    at: usize,
+) -> Result<(Operation, usize), SpecFault>
+    requires short { length bytes.now ≤ 67108865 }
+    requires scanned { tokens_of 1 bytes.now ≡ Ok tokens.now.items }
+    requires place { at ≤ length tokens.now.items }
+    ensures read { Gives text_fault (λ x. (x.0, lines_of bytes.now (drop x.1 tokens.now.items)))
+        result (operation_at (end_line_of 1 bytes.now) (lines_of bytes.now (drop at tokens.now.items))) }
+    ensures found { IfOk result (λ x. SpellsOperation (lines_of bytes.now (drop at tokens.now.items)) x.0 (lines_of bytes.now (drop x.1 tokens.now.items))) }
+    ensures behind { IfOk result (λ x. x.1 ≤ length tokens.now.items) }
+{
+    let Block { operation, rest } = read_block(alloc, bytes, &tokens[at..])?;
+    Ok((operation, tokens.len() - rest.len()))
+}
