@@ -5,5 +5,6 @@ pub mod TasksExist
 pub mod TasksInOrder
 pub mod TasksSorted
 pub mod Terms
+pub mod ValidFactors
 pub mod WorkBlocks
 mod WorkedTasks
