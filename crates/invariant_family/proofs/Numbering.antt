@@ -1,8 +1,10 @@
 -- Lists along numbers that go up by one: the variants of a family, and what stands for each dimension. Cited by the
 -- functions that add variants to a family, and by those that make cuts.
-use Rattle.std.proofs.Common.{◌≡◌, ℕ, zero, suc, ◌+◌, ◌<◌, List, [], ◌∷◌, ◌++◌, length, take, get_or, append_assoc, length-append, refl, sym, ap, ◌∙◌, arith, add-zero, add-one, map}
+use Rattle.std.proofs.Common.{◌≡◌, ℕ, zero, suc, ◌+◌, ◌<◌, List, [], ◌∷◌, ◌++◌, length, take, get_or, append_assoc, length-append, refl, sym, ap, subst, ◌∙◌, arith, add-zero, add-one, map}
+use Rattle.std.specs.Prelude.{All, AllPairs, Contains}
 use Rattle.std.proofs.lemmas.List.{map-append, append-nil, take_more}
 use Rattle.std.proofs.lemmas.List.Concat.{flat_map-append}
+use Rattle.std.proofs.lemmas.List.Elements.{All-contains_itself}
 use Rattle.std.specs.List.{flat_map}
 use Rattle.task_graph.specs.Order.{numbers_below}
 use Rattle.operation_spec.specs.declared.split.Split.{Split}
@@ -25,6 +27,28 @@ pub invariant-numbered_from : (n : ℕ) (vs : List Invariant) (k : ℕ) (d : Var
 invariant-numbered_from n [] k d e below = absurd (omega arith)
 invariant-numbered_from n (v ∷ vs) zero d e below = refl
 invariant-numbered_from n (v ∷ vs) (suc k) d e below = invariant-numbered_from (n + 1) vs k d e (omega arith)
+
+-- what holds of the invariants holds of those that the variants keep
+pub All-numbered_from : (P : Invariant → Type 0) (n : ℕ) (vs : List Invariant) → All P vs → All (λ v. P (invariant_of_variant v)) (numbered_from n vs)
+All-numbered_from P n vs each k d below =
+    let within : k < length vs = omega (arith, length-numbered_from n vs) in
+    let e = invariant_of_variant d in
+    subst P (sym (invariant-numbered_from n vs k d e within)) (each k e within)
+
+pub AllPairs-numbered_from : (R : Invariant → Invariant → Type 0) (n : ℕ) (vs : List Invariant) → AllPairs R vs → AllPairs (λ u v. R (invariant_of_variant u) (invariant_of_variant v)) (numbered_from n vs)
+AllPairs-numbered_from R n vs pairs i j d before below =
+    let within : j < length vs = omega (arith, length-numbered_from n vs) in
+    let e = invariant_of_variant d in
+    let first = invariant-numbered_from n vs i d e (omega arith) in
+    let second = invariant-numbered_from n vs j d e within in
+    subst (λ u. R u (invariant_of_variant (get_or (numbered_from n vs) j d))) (sym first) (subst (λ v. R (get_or vs i e) v) (sym second) (pairs i j e before within))
+
+-- one of the variants keeps an invariant
+pub Contains-numbered_from : (n : ℕ) (vs : List Invariant) (w : Invariant) → Contains vs w → (v : Variant) × Contains (numbered_from n vs) v × (invariant_of_variant v ≡ w)
+Contains-numbered_from n vs w (k, below, at) =
+    let d : Variant = record { number = 0; split = w.split; dirs = w.dirs; kept = w.kept } in
+    let within : k < length (numbered_from n vs) = omega (arith, length-numbered_from n vs) in
+    (get_or (numbered_from n vs) k d, All-contains_itself (numbered_from n vs) k d within, invariant-numbered_from n vs k d w below ∙ at)
 
 -- the numbers of a second part go on where those of the first end
 pub numbered_from-append : (n : ℕ) (us vs : List Invariant) → numbered_from n (us ++ vs) ≡ numbered_from n us ++ numbered_from (n + length us) vs

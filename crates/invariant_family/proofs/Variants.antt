@@ -3,7 +3,7 @@
 use Rattle.std.proofs.Common.{◌≡◌, ◌≢◌, ◌<◌, List, [], ◌∷◌, Bool, true, false, if◌then◌else◌, map, refl, sym, ap, ◌∙◌, get_or, arith}
 use Rattle.std.specs.Prelude.{All, AllPairs, Contains}
 use Rattle.std.specs.List.{flat_map}
-use Rattle.std.proofs.lemmas.List.Elements.{All-nil, All-cons, All-map, All-filter, filter_passes}
+use Rattle.std.proofs.lemmas.List.Elements.{All-nil, All-cons, All-map, All-filter, All-contains_itself, filter_passes}
 use Rattle.std.proofs.lemmas.List.Kept.{AllPairs-cons, AllPairs-filter}
 use Rattle.operation_spec.specs.declared.operation.Operation.{Operation}
 use Rattle.operation_spec.specs.declared.split.Split.{Split}
@@ -31,6 +31,19 @@ All-invariants op P each splits = All-flat_map Q (invariants_of_split op) splits
     of_split : (split : Split) → All Q (invariants_of_split op split)
     of_split split = All-flat_map Q (invariants_in op split) (directions_of split)
         (λ k d below. All-map Q (invariant_of split (get_or (directions_of split) k d)) (feasible_sets op split (get_or (directions_of split) k d)) (each split (get_or (directions_of split) k d)))
+
+-- an invariant goes along one of the splits, in one of its directions
+pub invariants_go_along : (op : Operation) (Q : Split → Type 0) (splits : List Split) → All Q splits
+    → All (λ v. Q v.split × Contains (directions_of v.split) v.dirs) (invariants_along op splits)
+invariants_go_along op Q splits each = All-flat_map P (invariants_of_split op) splits (λ k d below. of_split (get_or splits k d) (each k d below))
+  where
+    P : Invariant → Type 0
+    P v = Q v.split × Contains (directions_of v.split) v.dirs
+
+    of_split : (split : Split) → Q split → All P (invariants_of_split op split)
+    of_split split q = All-flat_map P (invariants_in op split) (directions_of split)
+        (λ k d below. All-map P (invariant_of split (get_or (directions_of split) k d)) (feasible_sets op split (get_or (directions_of split) k d))
+        (λ i e within. (q, All-contains_itself (directions_of split) k d below)))
 
 -- a set that is kept is feasible
 pub feasible_sets_pass : (op : Operation) (split : Split) (dirs : Dirs) → All (λ s. is_feasible op split dirs s ≡ true) (feasible_sets op split dirs)
