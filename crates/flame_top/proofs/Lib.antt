@@ -10,4 +10,3 @@ mod FiveItems
 mod ProductRows
 mod WordNumbers
 mod WorkedRows
-mod WrittenMatrix

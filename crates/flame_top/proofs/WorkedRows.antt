@@ -6,9 +6,11 @@ use Rattle.residue_sums.specs.Tables.{times, plus}
 use Rattle.residue_sums.specs.Grids.{entry}
 use Rattle.byte_texts.specs.MatrixTexts.{matrix_text}
 use Rattle.flame_top.specs.declared.command.Command.TheVariants.{Run}
-use Rattle.flame_top.specs.EarlyTexts.{spelling}
+use Rattle.flame_top.specs.EarlyTexts.{operation_text, spelling}
 use Rattle.invariant_family.specs.Families.{single_family_of}
 use Rattle.variant_report.specs.FamilyTexts.{family_text}
+use Rattle.text_scan.specs.NormalTexts.{lines_text}
+use Rattle.operation_spec.specs.OperationLines.{operation_lines}
 use Rattle.flame_top.specs.EarlyOperation.{early_operation}
 use Rattle.flame_top.specs.Words.{words_of}
 
@@ -41,6 +43,11 @@ spelled_job = refl
 spelled_words : words_of (Run (record { block = 1024; workers = 1 })) ≡ codes "run" ∷ codes "--block" ∷ codes "1024" ∷ codes "--workers" ∷ codes "1" ∷ []
 unfolding digits
 spelled_words = refl
+
+-- what states the operation is its normal text
+stated_operation_text : operation_text ≡ lines_text (operation_lines early_operation)
+unfolding early_operation
+stated_operation_text = refl
 
 -- the family of the stated operation, along single dimensions
 printed_family : family_text early_operation (single_family_of early_operation)

@@ -2,7 +2,7 @@
 //!
 //! The words name a command (`command`). A command that reads input takes it whole, reads it as a job
 //! (`reading`) or as the operation that it states (`operation`), computes (`product`) or derives, and composes
-//! its whole output (`output`, `writing`) before the first byte is written (`run`). `top` joins them; `laws` says
+//! its whole output (`output`) before the first byte is written (`run`). `top` joins them; `laws` says
 //! that what is due is determined.
 #![tactic(auto)]
 
@@ -16,7 +16,6 @@ mod output;
 mod product;
 mod reading;
 mod run;
-mod writing;
 
 pub use answer::top;
 pub use command::{Command, RunWords, read_words};

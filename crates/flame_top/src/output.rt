@@ -15,10 +15,11 @@ use crate::job::ProductJob;
 use crate::operation::stated_operation;
 use crate::product::product;
 use crate::reading::{read_early, read_stated};
-use crate::writing::put_matrix;
 use invariant_family::family;
+use matrix_text::write_matrix;
 use outside_io::{ReadEnd, Source, read_all};
 use std::alloc::{AllocError, Global};
+use text_scan::Name;
 use variant_report::write_family;
 
 /// An input may have so many bytes.
@@ -62,8 +63,9 @@ fn product_output(alloc: Global, job: ProductJob) -> Result<Output, AllocError>
     ensures { IfOk result (λ output. DueProduct job output.status output.text.items) }
 {
     let matrix = product(alloc, job)?;
+    let name = Name::from_vec(Vec::from_slice(alloc, b"W")?);
     let mut text = Vec::new(alloc);
-    put_matrix(b"W", &matrix, &mut text)?;
+    write_matrix(alloc, &name, &matrix, &mut text)?;
     Ok(Output { status: 0, text })
 }
 

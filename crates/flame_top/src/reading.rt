@@ -45,7 +45,7 @@ fn number(bytes: &[u8], end: u8) -> Result<(u64, &[u8]), EarlyFault>
 }
 
 /// What ends an entry that so many entries follow.
-pub fn end_of_entry(cols: usize, behind: usize) -> u8
+fn end_of_entry(cols: usize, behind: usize) -> u8
     requires { 0 < cols }
     ensures { result ≡ entry_end cols behind }
 {
