@@ -1,9 +1,12 @@
-ghost use Rattle.std.specs.Prelude.{◌≡◌, ◌*◌, ◌<◌, ◌≤◌, length, IfOk};
+ghost use Rattle.std.specs.Prelude.{◌≡◌, ◌≢◌, ◌*◌, ◌<◌, ◌≤◌, length, IfOk};
 ghost use Rattle.residue_sums.specs.Grids.{IsFull, entry, with_entry};
+ghost use Rattle.structure_rules.specs.Structures.{view};
+ghost use Rattle.structure_rules.specs.declared.Structure.TheVariants.{General};
 ghost use Rattle.matrix_core.specs.Matrices.{zero_grid, IsIdentity};
 
 use std::alloc::{AllocError, Global};
 use std::marker::Model;
+use structure_rules::Structure;
 
 /// A matrix of whole numbers below 2^64, which it owns. Rows and columns are numbered from 0.
 #[derive(Debug, Drop)]
@@ -107,6 +110,40 @@ impl Matrix {
         ensures { result ≡ entry self.now i j }
     {
         self.entries[i as usize * self.cols as usize + j as usize]
+    }
+
+    /// The entry in row i and column j of the view of this matrix by a structure.
+    pub fn view_entry(&self, s: Structure, i: u32, j: u32) -> u64
+        requires row_in { i < self.now.rows }
+        requires col_in { j < self.now.cols }
+        requires square { s ≢ General → self.now.rows ≡ self.now.cols }
+        ensures { result ≡ view s (entry self.now) i j }
+    {
+        match s {
+            Structure::General => self.get(i, j),
+            Structure::Lower => if j <= i { self.get(i, j) } else { 0 },
+            Structure::UnitLower => if i == j {
+                1
+            } else if j < i {
+                self.get(i, j)
+            } else {
+                0
+            },
+            Structure::Upper => if i <= j { self.get(i, j) } else { 0 },
+            Structure::UnitUpper => if i == j {
+                1
+            } else if i < j {
+                self.get(i, j)
+            } else {
+                0
+            },
+            Structure::Diagonal => if i == j { self.get(i, j) } else { 0 },
+            Structure::Symmetric => if j <= i {
+                self.get(i, j)
+            } else {
+                self.get(j, i)
+            },
+        }
     }
 
     /// Writes the entry in row i and column j. No other entry changes.
