@@ -1,11 +1,11 @@
 pub mod Found
 pub mod MatrixRows
 pub mod MatrixSpelling
-pub mod Parts
 pub mod PrintedLines
 pub mod PrintedTexts
 pub mod RowNumbers
 pub mod Rows
+pub mod TokenWords
 pub mod WordLists
 pub mod WrittenMatrix
 mod WorkedTexts

@@ -6,9 +6,9 @@ use Rattle.std.specs.List.{list_all}
 use Rattle.std.specs.Fmt.{decimal}
 use Rattle.std.specs.Str.{bytes_eq}
 use Rattle.std.proofs.lemmas.Bool.{and_parts, le-ltb, ltb-false, eqb-true, not-false, or_parts, or_from, ne_eqb}
-use Rattle.std.proofs.lemmas.List.{map-append}
+use Rattle.std.proofs.lemmas.List.{length-map, map-append}
 use Rattle.std.proofs.lemmas.Slice.Eq.{bytes_eq-Decides}
-use Rattle.residue_sums.specs.Grids.{Grid, IsFull}
+use Rattle.residue_sums.specs.Grids.{AreResidues, Grid, IsFull}
 use Rattle.byte_texts.specs.Reading.{◌>>=◌}
 use Rattle.byte_texts.proofs.Binding.{bind_ok, same_ok}
 use Rattle.text_scan.specs.Faults.{Test}
@@ -20,8 +20,8 @@ use Rattle.text_scan.proofs.LineOrders.{AreLines-parts, AreLines-inner, is_line-
 use Rattle.text_scan.proofs.NumberTexts.{number_word, decimal_number}
 use Rattle.matrix_text.specs.declared.fault.MatrixFault.{MatrixFault}
 use Rattle.matrix_text.specs.declared.fault.MatrixFault.TheVariants.{Syntax, TooLarge}
-use Rattle.matrix_text.specs.MatrixFaults.{Heading, is_heading, heading_of, is_too_large, heading_at, is_end, rows_at, last_at, NamedGrid, matrix_at}
-use Rattle.matrix_text.specs.MatrixLines.{row_lines, matrix_lines, size_limit, SpellsMatrix}
+use Rattle.matrix_text.specs.MatrixFaults.{Heading, is_heading, heading_of, is_too_large, heading_at, is_end, rows_at, last_at, grid_at, NamedGrid, matrix_at}
+use Rattle.matrix_text.specs.MatrixLines.{row_lines, grid_lines, matrix_lines, size_limit, SpellsMatrix, SpellsRows}
 use Rattle.matrix_text.proofs.MatrixRows.{inner_read, rows-count, rows_take, rows_again}
 
 -- ---- the first line
@@ -139,84 +139,60 @@ row_count-entries rows cols = by_test (cols == 0) refl
     by_test true none = let no : cols ≡ 0 = eqb-true cols 0 none in rw no (omega arith)
     by_test false some = refl
 
--- ---- the whole matrix
-
--- what the steps of reading a matrix found
-record MatrixSteps (end m room : ℕ) (lines : List Line) (name : List ℕ) (g : Grid) (rest : List Line) : Type 0 where
-  first : Line
-  behind_first : List Line
-  behind_rows : List Line
-  lines_are : lines ≡ first ∷ behind_first
-  heading : heading_at room first ≡ Ok (record { name = name; rows = g.rows; cols = g.cols })
-  rows : rows_at end m g.cols (if g.cols == 0 then 0 else g.rows) behind_first ≡ Ok (g.entries, behind_rows)
-  last : last_at end behind_rows ≡ Ok rest
-
-abbrev row_count : Heading → ℕ
-row_count h = if h.cols == 0 then 0 else h.rows
-
-abbrev made : Heading → List ℕ → NamedGrid
-made h xs = record { name = h.name; grid = record { rows = h.rows; cols = h.cols; entries = xs } }
-
-matrix_steps : (end m room : ℕ) (lines : List Line) (name : List ℕ) (g : Grid) (rest : List Line) → matrix_at end m room lines ≡ Ok (record { name = name; grid = g }, rest) → MatrixSteps end m room lines name g rest
-unfolding matrix_at
-matrix_steps end m room [] name g rest e = absurd cc
-matrix_steps end m room (line ∷ lines) name g rest e =
-    let answer : NamedGrid × List Line = (record { name = name; grid = g }, rest) in
-    let inner = inner_read (line.number == end) end (line, lines) (λ first. heading_at room first.0 >>= λ h. rows_at end m h.cols (row_count h) first.1 >>= λ entries. last_at end entries.1 >>= λ behind. Ok (made h entries.0, behind)) answer e in
-    let heading = bind_ok (heading_at room line) (λ h. rows_at end m h.cols (row_count h) lines >>= λ entries. last_at end entries.1 >>= λ behind. Ok (made h entries.0, behind)) answer inner in
-    let h = heading.0 in
-    let rows = bind_ok (rows_at end m h.cols (row_count h) lines) (λ entries. last_at end entries.1 >>= λ behind. Ok (made h entries.0, behind)) answer heading.2 in
-    let last = bind_ok (last_at end rows.0.1) (λ behind. Ok (made h rows.0.0, behind)) answer rows.2 in
-    let found : NamedGrid × List Line = (made h rows.0.0, last.0) in
-    let same = same_ok {F = MatrixFault} found answer last.2 in
-    subst (λ (p : NamedGrid × List Line). MatrixSteps end m room (line ∷ lines) p.0.name p.0.grid p.1) same
-    (record { first = line; behind_first = lines; behind_rows = rows.0.1; lines_are = refl; heading = heading.1; rows = rows.1; last = last.1 })
-
--- the grid is full
-pub matrix-full : (end m room : ℕ) (lines : List Line) (name : List ℕ) (g : Grid) (rest : List Line) → matrix_at end m room lines ≡ Ok (record { name = name; grid = g }, rest) → IsFull g
-matrix-full end m room lines name g rest e =
-    let steps = matrix_steps end m room lines name g rest e in
-    rows-count end m g.cols (if g.cols == 0 then 0 else g.rows) steps.behind_first g.entries steps.behind_rows steps.rows ∙ row_count-entries g.rows g.cols
-
--- the lines of a matrix, put together
-joined : (first last : Line) (own rest lines behind_first behind_rows : List Line) → lines ≡ first ∷ behind_first → behind_first ≡ own ++ behind_rows → behind_rows ≡ last ∷ rest
-    → lines ≡ (first ∷ own ++ last ∷ []) ++ rest
-joined first last own rest lines behind_first behind_rows e1 e2 e3 =
-    e1 ∙ ap (λ (ls : List Line). first ∷ ls) (e2 ∙ ap (λ (ls : List Line). own ++ ls) e3 ∙ sym (append_assoc own (last ∷ []) rest))
+-- ---- the rows and the last line
 
 abbrev words_of : List Line → List (List (List ℕ))
 words_of lines = map (λ line. line.words) lines
 
-spelled : (name : List ℕ) (g : Grid) (first last : Line) (own : List Line) → first.words ≡ heading_words name g.rows g.cols → words_of own ≡ (if g.cols == 0 then [] else row_lines g.rows g.cols g.entries) → last.words ≡ codes "end" ∷ []
-    → words_of (first ∷ own ++ last ∷ []) ≡ matrix_lines name g
-spelled name g first last own e1 e2 e3 =
-    map-append (λ (line : Line). line.words) (first ∷ own) (last ∷ [])
-    ∙ ap (λ (ws : List (List ℕ)). (ws ∷ words_of own) ++ last.words ∷ []) e1
-    ∙ ap (λ (vs : List (List (List ℕ))). (heading_words name g.rows g.cols ∷ vs) ++ last.words ∷ []) e2
-    ∙ ap (λ (ws : List (List ℕ)). (heading_words name g.rows g.cols ∷ (if g.cols == 0 then [] else row_lines g.rows g.cols g.entries)) ++ ws ∷ []) e3
+abbrev made : ℕ → ℕ → List ℕ → Grid
+made rows cols xs = record { rows = rows; cols = cols; entries = xs }
 
--- a matrix that is read is spelled so
-pub matrix_takes : (end m room : ℕ) (lines : List Line) (name : List ℕ) (g : Grid) (rest : List Line) → m ≤ 2 ^ 64 → AreLines end lines
-    → matrix_at end m room lines ≡ Ok (record { name = name; grid = g }, rest) → SpellsMatrix m room lines name g rest
-matrix_takes end m room lines name g rest small are e =
-    let steps = matrix_steps end m room lines name g rest e in
-    let is = AreLines-parts (subst (AreLines end) steps.lines_are are) in
-    let heading = heading_takes room steps.first (record { name = name; rows = g.rows; cols = g.cols }) (is_line-words steps.first.words is.words) steps.heading in
-    let rows = rows_take end m g.cols (if g.cols == 0 then 0 else g.rows) steps.behind_first g.entries steps.behind_rows small is.others steps.rows in
+-- what the steps of reading them found
+record GridSteps (end m rows cols : ℕ) (lines : List Line) (g : Grid) (rest : List Line) : Type 0 where
+  behind_rows : List Line
+  entries : rows_at end m cols (if cols == 0 then 0 else rows) lines ≡ Ok (g.entries, behind_rows)
+  last : last_at end behind_rows ≡ Ok rest
+  made_of : made rows cols g.entries ≡ g
+
+grid_steps : (end m rows cols : ℕ) (lines : List Line) (g : Grid) (rest : List Line) → grid_at end m rows cols lines ≡ Ok (g, rest) → GridSteps end m rows cols lines g rest
+grid_steps end m rows cols lines g rest e =
+    let answer : Grid × List Line = (g, rest) in
+    let read = bind_ok (rows_at end m cols (if cols == 0 then 0 else rows) lines) (λ entries. last_at end entries.1 >>= λ behind. Ok (made rows cols entries.0, behind)) answer e in
+    let last = bind_ok (last_at end read.0.1) (λ behind. Ok (made rows cols read.0.0, behind)) answer read.2 in
+    let found : Grid × List Line = (made rows cols read.0.0, last.0) in
+    let same = same_ok {F = MatrixFault} found answer last.2 in
+    subst (λ (p : Grid × List Line). GridSteps end m rows cols lines p.0 p.1) same
+    (record { behind_rows = read.0.1; entries = read.1; last = last.1; made_of = refl })
+
+-- the grid is full
+pub grid-full : (end m rows cols : ℕ) (lines : List Line) (g : Grid) (rest : List Line) → grid_at end m rows cols lines ≡ Ok (g, rest) → IsFull g
+grid-full end m rows cols lines g rest e =
+    let steps = grid_steps end m rows cols lines g rest e in
+    subst IsFull steps.made_of (rows-count end m cols (if cols == 0 then 0 else rows) lines g.entries steps.behind_rows steps.entries ∙ row_count-entries rows cols)
+
+-- rows and a last line are the lines of a grid
+rows_spelled : (rows cols : ℕ) (xs : List ℕ) (own : List Line) (last : Line) → words_of own ≡ row_lines (if cols == 0 then 0 else rows) cols xs → last.words ≡ codes "end" ∷ []
+    → words_of (own ++ last ∷ []) ≡ grid_lines (made rows cols xs)
+rows_spelled rows cols xs own last words ends =
+    map-append (λ (line : Line). line.words) own (last ∷ [])
+    ∙ ap (λ (ws : List (List ℕ)). words_of own ++ ws ∷ []) ends
+    ∙ ap (λ (vs : List (List (List ℕ))). vs ++ (codes "end" ∷ []) ∷ []) (words ∙ row_lines-none (cols == 0) rows cols xs)
+
+-- rows that are read are spelled so
+pub grid_takes : (end m rows cols : ℕ) (lines : List Line) (g : Grid) (rest : List Line) → m ≤ 2 ^ 64 → AreLines end lines
+    → grid_at end m rows cols lines ≡ Ok (g, rest) → SpellsRows m rows cols lines g rest
+grid_takes end m rows cols lines g rest small are e =
+    let steps = grid_steps end m rows cols lines g rest e in
+    let read = rows_take end m cols (if cols == 0 then 0 else rows) lines g.entries steps.behind_rows small are steps.entries in
     let last = last_takes end steps.behind_rows rest steps.last in
-    record {
-      text = (
-        steps.first ∷ rows.0 ++ last.0 ∷ [],
-        joined steps.first last.0 rows.0 rest lines steps.behind_first steps.behind_rows steps.lines_are rows.1 last.1,
-        spelled name g steps.first last.0 rows.0 heading.text (rows.2.text ∙ row_lines-none (g.cols == 0) g.rows g.cols g.entries) last.2,
-      );
-      named = heading.named;
-      rows = heading.few_rows;
-      cols = heading.few_cols;
-      fits = heading.fits;
-      full = matrix-full end m room lines name g rest e;
-      residues = rows.2.below;
-    }
+    let parts : lines ≡ (read.0 ++ last.0 ∷ []) ++ rest = read.1 ∙ ap (λ (ls : List Line). read.0 ++ ls) last.1 ∙ sym (append_assoc read.0 (last.0 ∷ []) rest) in
+    subst (λ (h : Grid). SpellsRows m rows cols lines h rest) steps.made_of (record {
+      text = (read.0 ++ last.0 ∷ [], parts, rows_spelled rows cols g.entries read.0 last.0 read.2.text last.2);
+      as_many_rows = refl;
+      as_many_cols = refl;
+      full = subst IsFull (sym steps.made_of) (grid-full end m rows cols lines g rest e);
+      residues = read.2.below;
+    })
 
 -- lines of which the last is known
 record SplitLast (own : List Line) (words : List (List (List ℕ))) (last : List (List ℕ)) : Type 0 where
@@ -243,26 +219,100 @@ split_last (line ∷ own) (w ∷ words) last e =
       line_words = split.line_words;
     }
 
+-- the grid with its own rows and columns
+own_rows : (end m : ℕ) (own rest : List Line) (g : Grid) → m ≤ 2 ^ 64 → AreLines end (own ++ rest) → words_of own ≡ grid_lines g → IsFull g → AreResidues m g
+    → grid_at end m g.rows g.cols (own ++ rest) ≡ Ok (g, rest)
+own_rows end m own rest g small are words full residues =
+    let split = split_last own (if g.cols == 0 then [] else row_lines g.rows g.cols g.entries) (codes "end" ∷ []) words in
+    let whole : own ++ rest ≡ split.front ++ split.line ∷ rest = ap (λ (ls : List Line). ls ++ rest) split.parts ∙ append_assoc split.front (split.line ∷ []) rest in
+    let read = rows_again end m g.cols (if g.cols == 0 then 0 else g.rows) split.front (split.line ∷ rest) g.entries small (subst (AreLines end) whole are) (omega arith)
+    (record { text = split.front_words ∙ sym (row_lines-none (g.cols == 0) g.rows g.cols g.entries); below = residues }) (full ∙ sym (row_count-entries g.rows g.cols)) in
+    let last = last_again end split.line rest split.line_words in
+    rw (whole, read, last) refl
+
+-- rows that are spelled so are read
+pub grid_again : (end m rows cols : ℕ) (lines : List Line) (g : Grid) (rest : List Line) → m ≤ 2 ^ 64 → AreLines end lines
+    → SpellsRows m rows cols lines g rest → grid_at end m rows cols lines ≡ Ok (g, rest)
+grid_again end m rows cols lines g rest small are is =
+    ap (λ n. grid_at end m n cols lines) (sym is.as_many_rows) ∙ ap (λ n. grid_at end m g.rows n lines) (sym is.as_many_cols)
+    ∙ ap (grid_at end m g.rows g.cols) is.text.1
+    ∙ own_rows end m is.text.0 rest g small (subst (AreLines end) is.text.1 are) is.text.2 is.full is.residues
+
+-- ---- the whole matrix
+
+-- what the steps of reading a matrix found
+record MatrixSteps (end m room : ℕ) (lines : List Line) (name : List ℕ) (g : Grid) (rest : List Line) : Type 0 where
+  first : Line
+  behind_first : List Line
+  rows : ℕ
+  cols : ℕ
+  lines_are : lines ≡ first ∷ behind_first
+  heading : heading_at room first ≡ Ok (record { name = name; rows = rows; cols = cols })
+  grid : grid_at end m rows cols behind_first ≡ Ok (g, rest)
+
+matrix_steps : (end m room : ℕ) (lines : List Line) (name : List ℕ) (g : Grid) (rest : List Line) → matrix_at end m room lines ≡ Ok (record { name = name; grid = g }, rest) → MatrixSteps end m room lines name g rest
+unfolding matrix_at
+matrix_steps end m room [] name g rest e = absurd cc
+matrix_steps end m room (line ∷ lines) name g rest e =
+    let answer : NamedGrid × List Line = (record { name = name; grid = g }, rest) in
+    let inner = inner_read (line.number == end) end (line, lines) (λ first. heading_at room first.0 >>= λ h. grid_at end m h.rows h.cols first.1 >>= λ grid. Ok (record { name = h.name; grid = grid.0 }, grid.1)) answer e in
+    let heading = bind_ok (heading_at room line) (λ h. grid_at end m h.rows h.cols lines >>= λ grid. Ok (record { name = h.name; grid = grid.0 }, grid.1)) answer inner in
+    let h = heading.0 in
+    let grid = bind_ok (grid_at end m h.rows h.cols lines) (λ grid. Ok (record { name = h.name; grid = grid.0 }, grid.1)) answer heading.2 in
+    let found : NamedGrid × List Line = (record { name = h.name; grid = grid.0.0 }, grid.0.1) in
+    let same = same_ok {F = MatrixFault} found answer grid.2 in
+    subst (λ (p : NamedGrid × List Line). MatrixSteps end m room (line ∷ lines) p.0.name p.0.grid p.1) same
+    (record { first = line; behind_first = lines; rows = h.rows; cols = h.cols; lines_are = refl; heading = heading.1; grid = grid.1 })
+
+-- its lines
+spelled : (name : List ℕ) (rows cols : ℕ) (g : Grid) (first : Line) (own : List Line) → first.words ≡ heading_words name rows cols → g.rows ≡ rows → g.cols ≡ cols → words_of own ≡ grid_lines g
+    → words_of (first ∷ own) ≡ matrix_lines name g
+spelled name rows cols g first own heading as_many_rows as_many_cols words =
+    ap (λ (ws : List (List ℕ)). ws ∷ words_of own) (heading ∙ ap (λ n. heading_words name n cols) (sym as_many_rows) ∙ ap (heading_words name g.rows) (sym as_many_cols))
+    ∙ ap (λ (vs : List (List (List ℕ))). heading_words name g.rows g.cols ∷ vs) words
+
+-- a matrix that is read is spelled so
+pub matrix_takes : (end m room : ℕ) (lines : List Line) (name : List ℕ) (g : Grid) (rest : List Line) → m ≤ 2 ^ 64 → AreLines end lines
+    → matrix_at end m room lines ≡ Ok (record { name = name; grid = g }, rest) → SpellsMatrix m room lines name g rest
+matrix_takes end m room lines name g rest small are e =
+    let steps = matrix_steps end m room lines name g rest e in
+    let is = AreLines-parts (subst (AreLines end) steps.lines_are are) in
+    let heading = heading_takes room steps.first (record { name = name; rows = steps.rows; cols = steps.cols }) (is_line-words steps.first.words is.words) steps.heading in
+    let grid = grid_takes end m steps.rows steps.cols steps.behind_first g rest small is.others steps.grid in
+    record {
+      text = (
+        steps.first ∷ grid.text.0,
+        steps.lines_are ∙ ap (λ (ls : List Line). steps.first ∷ ls) grid.text.1,
+        spelled name steps.rows steps.cols g steps.first grid.text.0 heading.text grid.as_many_rows grid.as_many_cols grid.text.2,
+      );
+      named = heading.named;
+      rows = subst (λ n. n ≤ size_limit) (sym grid.as_many_rows) heading.few_rows;
+      cols = subst (λ n. n ≤ size_limit) (sym grid.as_many_cols) heading.few_cols;
+      fits = subst (λ n. n * g.cols ≤ room) (sym grid.as_many_rows) (subst (λ n. steps.rows * n ≤ room) (sym grid.as_many_cols) heading.fits);
+      full = grid.full;
+      residues = grid.residues;
+    }
+
 -- the lines of a matrix, taken apart
 record MatrixOwn (name : List ℕ) (g : Grid) (own : List Line) : Type 0 where
   first : Line
-  rows : List Line
-  last : Line
-  parts : own ≡ first ∷ (rows ++ last ∷ [])
+  others : List Line
+  parts : own ≡ first ∷ others
   heading : first.words ≡ heading_words name g.rows g.cols
-  row_words : words_of rows ≡ (if g.cols == 0 then [] else row_lines g.rows g.cols g.entries)
-  ends : last.words ≡ codes "end" ∷ []
+  others_words : words_of others ≡ grid_lines g
 
 own_parts : (name : List ℕ) (g : Grid) (own : List Line) → words_of own ≡ matrix_lines name g → MatrixOwn name g own
 own_parts name g [] e = absurd cc
-own_parts name g (first ∷ own) e = taken (if g.cols == 0 then [] else row_lines g.rows g.cols g.entries) refl e
+own_parts name g (first ∷ own) e = taken (grid_lines g) refl e
   where
-    taken : (rows : List (List (List ℕ))) → rows ≡ (if g.cols == 0 then [] else row_lines g.rows g.cols g.entries)
-        → first.words ∷ words_of own ≡ heading_words name g.rows g.cols ∷ (rows ++ (codes "end" ∷ []) ∷ []) → MatrixOwn name g (first ∷ own)
-    taken rows are e =
-        let others : words_of own ≡ rows ++ (codes "end" ∷ []) ∷ [] = cc in
-        let split = split_last own rows (codes "end" ∷ []) others in
-        record { first = first; rows = split.front; last = split.line; parts = ap (λ (ls : List Line). first ∷ ls) split.parts; heading = cc; row_words = split.front_words ∙ are; ends = split.line_words }
+    taken : (lines : List (List (List ℕ))) → lines ≡ grid_lines g → first.words ∷ words_of own ≡ heading_words name g.rows g.cols ∷ lines → MatrixOwn name g (first ∷ own)
+    taken lines are e =
+        let others : words_of own ≡ lines = cc in
+        record { first = first; others = own; parts = refl; heading = cc; others_words = others ∙ are }
+
+-- there is a last line
+pub grid_lines-some : (g : Grid) → 0 < length (grid_lines g)
+grid_lines-some g = omega (arith, length-append (if g.cols == 0 then [] else row_lines g.rows g.cols g.entries) ((codes "end" ∷ []) ∷ []))
 
 -- a matrix that is spelled so is read
 pub matrix_again : (end m room : ℕ) (lines : List Line) (name : List ℕ) (g : Grid) (rest : List Line) → m ≤ 2 ^ 64 → AreLines end lines
@@ -270,12 +320,10 @@ pub matrix_again : (end m room : ℕ) (lines : List Line) (name : List ℕ) (g :
 unfolding matrix_at
 matrix_again end m room lines name g rest small are is =
     let own = own_parts name g is.text.0 is.text.2 in
-    let whole : lines ≡ own.first ∷ (own.rows ++ own.last ∷ rest) = is.text.1 ∙ ap (λ (ls : List Line). ls ++ rest) own.parts ∙ ap (λ (ls : List Line). own.first ∷ ls) (append_assoc own.rows (own.last ∷ []) rest) in
+    let whole : lines ≡ own.first ∷ (own.others ++ rest) = is.text.1 ∙ ap (λ (ls : List Line). ls ++ rest) own.parts in
     let all = subst (AreLines end) whole are in
-    let some : 0 < length (own.rows ++ own.last ∷ rest) = omega (arith, length-append own.rows (own.last ∷ rest)) in
-    let inner = AreLines-inner own.first (own.rows ++ own.last ∷ rest) all some in
+    let some : 0 < length (own.others ++ rest) = omega (arith, length-append own.others rest, length-map own.others (λ (line : Line). line.words), ap length own.others_words, grid_lines-some g) in
+    let inner = AreLines-inner own.first (own.others ++ rest) all some in
     let heading = heading_again room own.first name g.rows g.cols (record { text = own.heading; named = is.named; few_rows = is.rows; few_cols = is.cols; fits = is.fits }) in
-    let rows = rows_again end m g.cols (if g.cols == 0 then 0 else g.rows) own.rows (own.last ∷ rest) g.entries small (AreLines-parts all).others (omega arith)
-    (record { text = own.row_words ∙ sym (row_lines-none (g.cols == 0) g.rows g.cols g.entries); below = is.residues }) (is.full ∙ sym (row_count-entries g.rows g.cols)) in
-    let last = last_again end own.last rest own.ends in
-    rw (whole, ne_eqb own.first.number end inner, heading, rows, last) refl
+    let grid = own_rows end m own.others rest g small (AreLines-parts all).others own.others_words is.full is.residues in
+    rw (whole, ne_eqb own.first.number end inner, heading, grid) refl

@@ -1,11 +1,11 @@
 -- The printed text of a matrix spells it. Cited by the laws of matrix texts.
-use Rattle.std.proofs.Common.{◌≡◌, ℕ, ◌*◌, ◌≤◌, List, [], ◌++◌, Ok, sym, ◌∙◌, subst, append-nil}
+use Rattle.std.proofs.Common.{◌≡◌, ℕ, ◌*◌, ◌≤◌, List, [], Ok, sym, ◌∙◌, subst, append-nil}
 use Rattle.std.specs.Prelude.{IsTrue}
 use Rattle.residue_sums.specs.Grids.{AreResidues, Grid, IsFull}
 use Rattle.byte_texts.specs.MatrixTexts as texts
 use Rattle.text_scan.specs.declared.token.Token.{Token}
 use Rattle.text_scan.specs.Lines.{lines_of}
-use Rattle.text_scan.specs.NormalTexts.{lines_text, numbered_lines}
+use Rattle.text_scan.specs.NormalTexts.{numbered_lines}
 use Rattle.text_scan.specs.Tokens.{tokens_of}
 use Rattle.text_scan.specs.Words.{is_name, is_word}
 use Rattle.text_scan.proofs.NormalScans.{normal_text_scanned}

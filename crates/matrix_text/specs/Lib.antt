@@ -1,3 +1,3 @@
-pub mod Behind
 pub mod MatrixFaults
 pub mod MatrixLines
+pub mod TokenWords

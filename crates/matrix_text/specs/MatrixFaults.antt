@@ -98,16 +98,23 @@ last_at end lines = do
   line ← or_syntax (due_line end lines)
   first_fault (record { holds = not (is_end line.0.words); fault = Syntax line.0.number } ∷ []) line.1
 
+-- the matrix of so many rows and columns that the lines behind its first one say, and the lines behind it; with no columns
+-- no row is due
+abbrev pub grid_at : ℕ → ℕ → ℕ → ℕ → List Line → Result (Grid × List Line) MatrixFault
+grid_at end m rows cols lines = do
+  entries ← rows_at end m cols (if cols == 0 then 0 else rows) lines
+  behind ← last_at end entries.1
+  Ok (record { rows = rows; cols = cols; entries = entries.0 }, behind)
+
 -- a matrix and its name
 pub record NamedGrid : Type 0 where
   pub name : List ℕ
   pub grid : Grid
 
--- the matrix that the first lines say, and the lines behind them; with no columns no row is due
+-- the matrix that the first lines say, and the lines behind them
 unfoldable pub matrix_at : ℕ → ℕ → ℕ → List Line → Result (NamedGrid × List Line) MatrixFault
 matrix_at end m room lines = do
   first ← or_syntax (inner_line end lines)
   heading ← heading_at room first.0
-  entries ← rows_at end m heading.cols (if heading.cols == 0 then 0 else heading.rows) first.1
-  behind ← last_at end entries.1
-  Ok (record { name = heading.name; grid = record { rows = heading.rows; cols = heading.cols; entries = entries.0 } }, behind)
+  grid ← grid_at end m heading.rows heading.cols first.1
+  Ok (record { name = heading.name; grid = grid.0 }, grid.1)

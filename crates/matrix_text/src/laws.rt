@@ -10,8 +10,8 @@ ghost use Rattle.text_scan.specs.Lines.{Line, lines_of};
 ghost use Rattle.text_scan.specs.NormalTexts.{is_line, lines_text};
 ghost use Rattle.text_scan.specs.Tokens.{tokens_of};
 ghost use Rattle.text_scan.specs.Words.{is_name, is_word};
-ghost use Rattle.matrix_text.specs.MatrixFaults.{matrix_at};
-ghost use Rattle.matrix_text.specs.MatrixLines.{SpellsMatrix, matrix_lines, size_limit};
+ghost use Rattle.matrix_text.specs.MatrixFaults.{grid_at, matrix_at};
+ghost use Rattle.matrix_text.specs.MatrixLines.{SpellsMatrix, SpellsRows, matrix_lines, size_limit};
 
 /// Lines that spell a matrix have no fault, and are read as that matrix. Its entries are numbers below 2^64.
 pub fn spelled_matrices_are_read()
@@ -23,6 +23,18 @@ pub fn spelled_matrices_are_read()
 pub fn read_matrices_are_spelled()
     ensures { (end m room : ℕ) (lines : List Line) (name : List ℕ) (g : Grid) (rest : List Line) → m ≤ 2 ^ 64 → AreLines end lines
         → matrix_at end m room lines ≡ Ok (record { name = name; grid = g }, rest) → SpellsMatrix m room lines name g rest }
+{}
+
+/// Lines that spell the rows of a matrix, and `end`, have no fault, and are read as its rows.
+pub fn spelled_rows_are_read()
+    ensures { (end m rows cols : ℕ) (lines : List Line) (g : Grid) (rest : List Line) → m ≤ 2 ^ 64 → AreLines end lines
+        → SpellsRows m rows cols lines g rest → grid_at end m rows cols lines ≡ Ok (g, rest) }
+{}
+
+/// Rows that are read without a fault are spelled so, each line of them.
+pub fn read_rows_are_spelled()
+    ensures { (end m rows cols : ℕ) (lines : List Line) (g : Grid) (rest : List Line) → m ≤ 2 ^ 64 → AreLines end lines
+        → grid_at end m rows cols lines ≡ Ok (g, rest) → SpellsRows m rows cols lines g rest }
 {}
 
 /// The printed text is the normal text of the lines, each of which has words. The name is the text of a name:

@@ -1,14 +1,15 @@
 ghost use Rattle.std.specs.Prelude.{◌≡◌, ◌+◌, ◌*◌, ◌<◌, ◌≤◌, length, drop, map, Ok, IfOk, IsTrue, MatchOption, false, if◌then◌else◌, ◌==◌};
 ghost use Rattle.std.specs.List.{list_all};
 ghost use Rattle.byte_texts.specs.Reading.{Gives};
+ghost use Rattle.text_scan.specs.Ends.{HasEnd};
 ghost use Rattle.text_scan.specs.Lines.{end_line_of, lines_of};
 ghost use Rattle.text_scan.specs.Scanned.{AreTokens};
 ghost use Rattle.text_scan.specs.Tokens.{tokens_of};
 ghost use Rattle.text_scan.specs.Words.{word, is_word, is_number, number_value};
 ghost use Rattle.matrix_text.specs.declared.fault.MatrixFault.TheVariants.{EntryRange};
-ghost use Rattle.matrix_text.specs.Behind.{IsBehind};
-ghost use Rattle.matrix_text.specs.MatrixFaults.{text_fault, is_heading, is_too_large, heading_at, is_end, row_at, numbers_behind, with_row, with_entries, next_row_at, rows_at, last_at, matrix_at};
-ghost use Rattle.matrix_text.specs.MatrixLines.{SpellsMatrix, size_limit};
+ghost use Rattle.matrix_text.specs.MatrixFaults.{text_fault, is_heading, is_too_large, heading_at, is_end, row_at, numbers_behind, with_row, with_entries, next_row_at, rows_at, last_at, grid_at, matrix_at};
+ghost use Rattle.matrix_text.specs.MatrixLines.{SpellsMatrix, SpellsRows, size_limit};
+ghost use Rattle.matrix_text.specs.TokenWords.{HaveWords};
 
 use crate::fault::MatrixFault;
 use field_word::Modulus;
@@ -35,7 +36,7 @@ struct Shape {
 }
 
 /// Whether the tokens are `matrix NAME ROWS COLS`.
-fn is_first_line(bytes: &[u8], tokens: &[Token]) -> bool
+pub fn is_heading(bytes: &[u8], tokens: &[Token]) -> bool
     requires { AreTokens 1 bytes.now tokens.now }
     ensures { result ≡ is_heading (map (word bytes.now) tokens.now) }
 {
@@ -96,7 +97,7 @@ fn first_line(
         result (heading_at room (record { number = line.entry.number; words = map (word bytes.now) line.entry.tokens.now })) }
 {
     match line.tokens {
-        [_, name, rows, cols] if is_first_line(bytes, line.tokens) => {
+        [_, name, rows, cols] if is_heading(bytes, line.tokens) => {
             match shape_of(bytes, *rows, *cols, room) {
                 Some(Shape { rows, cols }) => {
                     let name = name.name(alloc, bytes)?;
@@ -111,7 +112,7 @@ fn first_line(
 
 /// Whether the tokens are the word `end` alone.
 fn is_end_word(bytes: &[u8], tokens: &[Token]) -> bool
-    requires { AreTokens 1 bytes.now tokens.now }
+    requires { HaveWords bytes.now tokens.now }
     ensures { result ≡ is_end (map (word bytes.now) tokens.now) }
 {
     match tokens {
@@ -122,7 +123,7 @@ fn is_end_word(bytes: &[u8], tokens: &[Token]) -> bool
 
 /// Whether each token may stand as a number.
 fn are_numbers(bytes: &[u8], tokens: &[Token]) -> bool
-    requires { AreTokens 1 bytes.now tokens.now }
+    requires { HaveWords bytes.now tokens.now }
     ensures { result ≡ list_all (λ t. is_number (word bytes.now t)) tokens.now }
 {
     tokens.iter().all(|t| t.is_number(bytes))
@@ -148,7 +149,7 @@ fn put_row(
     line: TokenLine<'_>,
     entries: &mut Vec<u64>,
 ) -> Result<(), MatrixFault>
-    requires scanned { AreTokens 1 bytes.now line.tokens.now }
+    requires words { HaveWords bytes.now line.tokens.now }
     requires numbers { IsTrue (list_all is_number (map (word bytes.now) line.tokens.now)) }
     ensures { Gives text_fault (λ done. entries.new.items)
         result (numbers_behind m (EntryRange line.entry.number) entries.old.items (map (word bytes.now) line.entry.tokens.now)) }
@@ -171,7 +172,7 @@ fn row(
     line: TokenLine<'_>,
     entries: &mut Vec<u64>,
 ) -> Result<(), MatrixFault>
-    requires { AreTokens 1 bytes.now line.tokens.now }
+    requires { HaveWords bytes.now line.tokens.now }
     ensures { Gives text_fault (λ done. entries.new.items)
         result (with_row entries.old.items (row_at m cols (record { number = line.entry.number; words = map (word bytes.now) line.entry.tokens.now }))) }
 {
@@ -191,18 +192,20 @@ fn row(
 #[tactic(auto, unfolding(crate::specs::MatrixFaults::next_row_at))]
 fn next_row<'a>(
     bytes: &[u8],
+    first: u32,
     m: u64,
     cols: u32,
     tokens: &'a [Token],
     entries: &mut Vec<u64>,
 ) -> Result<&'a [Token], MatrixFault>
     requires short { length bytes.now ≤ 67108865 }
-    requires scanned { AreTokens 1 bytes.now tokens.now }
+    requires low { first ≤ 67108865 }
+    requires scanned { AreTokens first bytes.now tokens.now }
     ensures row { Gives text_fault (λ rest. (entries.new.items, lines_of bytes.now rest.now))
-        result (with_entries entries.old.items (next_row_at (end_line_of 1 bytes.now) m cols (lines_of bytes.now tokens.now))) }
-    ensures behind { IfOk result (λ rest. IsBehind rest.now tokens.now) }
+        result (with_entries entries.old.items (next_row_at (end_line_of first bytes.now) m cols (lines_of bytes.now tokens.now))) }
+    ensures behind { IfOk result (λ rest. HasEnd tokens.now rest.now) }
 {
-    let line = inner_line(1, bytes, tokens)?;
+    let line = inner_line(first, bytes, tokens)?;
     row(bytes, m, cols, line, entries)?;
     Ok(line.rest)
 }
@@ -211,35 +214,38 @@ fn next_row<'a>(
 fn rows<'a>(
     alloc: Global,
     bytes: &[u8],
+    first: u32,
     m: u64,
     count: u32,
     cols: u32,
     tokens: &'a [Token],
 ) -> Result<(Vec<u64>, &'a [Token]), MatrixFault>
     requires short { length bytes.now ≤ 67108865 }
-    requires scanned { AreTokens 1 bytes.now tokens.now }
+    requires low { first ≤ 67108865 }
+    requires scanned { AreTokens first bytes.now tokens.now }
     ensures rows { Gives text_fault (λ x. (x.0.items, lines_of bytes.now x.1.now))
-        result (rows_at (end_line_of 1 bytes.now) m cols count (lines_of bytes.now tokens.now)) }
-    ensures behind { IfOk result (λ x. IsBehind x.1.now tokens.now) }
+        result (rows_at (end_line_of first bytes.now) m cols count (lines_of bytes.now tokens.now)) }
+    ensures behind { IfOk result (λ x. HasEnd tokens.now x.1.now) }
 {
     let mut entries = Vec::with_capacity(alloc, count as usize * cols as usize)?;
     let mut rest = tokens;
     for _ in 0..count {
-        rest = next_row(bytes, m, cols, rest, &mut entries)?;
+        rest = next_row(bytes, first, m, cols, rest, &mut entries)?;
     }
     Ok((entries, rest))
 }
 
 /// The tokens behind the last line of a matrix.
 #[tactic(auto, unfolding(crate::specs::MatrixFaults::last_at))]
-fn last_line<'a>(bytes: &[u8], tokens: &'a [Token]) -> Result<&'a [Token], MatrixFault>
+fn last_line<'a>(bytes: &[u8], first: u32, tokens: &'a [Token]) -> Result<&'a [Token], MatrixFault>
     requires short { length bytes.now ≤ 67108865 }
-    requires scanned { AreTokens 1 bytes.now tokens.now }
+    requires low { first ≤ 67108865 }
+    requires scanned { AreTokens first bytes.now tokens.now }
     ensures last { Gives text_fault (λ rest. lines_of bytes.now rest.now)
-        result (last_at (end_line_of 1 bytes.now) (lines_of bytes.now tokens.now)) }
-    ensures behind { IfOk result (λ rest. IsBehind rest.now tokens.now) }
+        result (last_at (end_line_of first bytes.now) (lines_of bytes.now tokens.now)) }
+    ensures behind { IfOk result (λ rest. HasEnd tokens.now rest.now) }
 {
-    let line = due_line(1, bytes, tokens)?;
+    let line = due_line(first, bytes, tokens)?;
     if !is_end_word(bytes, line.tokens) {
         return Err(MatrixFault::Syntax { line: line.number });
     }
@@ -251,6 +257,29 @@ fn row_count(rows: u32, cols: u32) -> u32
     ensures { result ≡ (if cols == 0 then 0 else rows) }
 {
     if cols == 0 { 0 } else { rows }
+}
+
+/// The matrix of so many rows and columns whose lines behind its first one are at the front of the tokens,
+/// and the tokens behind it.
+fn grid<'a>(
+    alloc: Global,
+    bytes: &[u8],
+    first: u32,
+    m: u64,
+    shape: Shape,
+    tokens: &'a [Token],
+) -> Result<(Matrix, &'a [Token]), MatrixFault>
+    requires short { length bytes.now ≤ 67108865 }
+    requires low { first ≤ 67108865 }
+    requires scanned { AreTokens first bytes.now tokens.now }
+    ensures grid { Gives text_fault (λ x. (x.0, lines_of bytes.now x.1.now))
+        result (grid_at (end_line_of first bytes.now) m shape.rows shape.cols (lines_of bytes.now tokens.now)) }
+    ensures behind { IfOk result (λ x. HasEnd tokens.now x.1.now) }
+{
+    let Shape { rows: count, cols } = shape;
+    let (entries, rest) = rows(alloc, bytes, first, m, row_count(count, cols), cols, tokens)?;
+    let rest = last_line(bytes, first, rest)?;
+    Ok((Matrix::from_entries(count, cols, entries), rest))
 }
 
 /// The matrix at the front of the tokens, its name, and the tokens behind it.
@@ -266,17 +295,12 @@ fn matrix<'a>(
     requires scanned { AreTokens 1 bytes.now tokens.now }
     ensures matrix { Gives text_fault (λ x. (record { name = x.0; grid = x.1 }, lines_of bytes.now x.2.now))
         result (matrix_at (end_line_of 1 bytes.now) m room (lines_of bytes.now tokens.now)) }
-    ensures behind { IfOk result (λ x. IsBehind x.2.now tokens.now) }
+    ensures behind { IfOk result (λ x. HasEnd tokens.now x.2.now) }
 {
-    let first = inner_line(1, bytes, tokens)?;
-    let Heading {
-        name,
-        rows: count,
-        cols,
-    } = first_line(alloc, bytes, room, first)?;
-    let (entries, rest) = rows(alloc, bytes, m, row_count(count, cols), cols, first.rest)?;
-    let rest = last_line(bytes, rest)?;
-    Ok((name, Matrix::from_entries(count, cols, entries), rest))
+    let line = inner_line(1, bytes, tokens)?;
+    let Heading { name, rows, cols } = first_line(alloc, bytes, room, line)?;
+    let (matrix, rest) = grid(alloc, bytes, 1, m, Shape { rows, cols }, line.rest)?;
+    Ok((name, matrix, rest))
 }
 
 /// Reads one matrix from token `at` on: its name, the matrix with entries below `m`, and the place of the
@@ -300,4 +324,29 @@ pub fn read_matrix(
 {
     let (name, matrix, rest) = matrix(alloc, bytes, &tokens[at..], m.value(), room)?;
     Ok((name, matrix, tokens.len() - rest.len()))
+}
+
+/// Reads the lines of a matrix behind its first one, which said its rows and columns, from the front of the
+/// tokens: a line for each row, where there are columns, and `end`. Answers the matrix with entries below `m`
+/// and the tokens behind it. `first` is the number of the first byte's line. Its errors are want of memory, and
+/// the first fault of the text by line, and in a line in the order of `MatrixFault`.
+pub fn read_rows<'a>(
+    alloc: Global,
+    bytes: &[u8],
+    first: u32,
+    m: Modulus,
+    rows: u32,
+    cols: u32,
+    tokens: &'a [Token],
+) -> Result<(Matrix, &'a [Token]), MatrixFault>
+    requires short { length bytes.now ≤ 67108865 }
+    requires low { first ≤ 67108865 }
+    requires scanned { AreTokens first bytes.now tokens.now }
+    ensures read { Gives text_fault (λ x. (x.0, lines_of bytes.now x.1.now))
+        result (grid_at (end_line_of first bytes.now) m rows cols (lines_of bytes.now tokens.now)) }
+    ensures found { IfOk result (λ x. SpellsRows m rows cols (lines_of bytes.now tokens.now) x.0 (lines_of bytes.now x.1.now)) }
+    ensures behind { IfOk result (λ x. HasEnd tokens.now x.1.now) }
+{
+    let (matrix, rest) = grid(alloc, bytes, first, m.value(), Shape { rows, cols }, tokens)?;
+    Ok((matrix, rest))
 }

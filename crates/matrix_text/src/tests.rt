@@ -134,3 +134,40 @@ fn texts_are_refused(rt: HostRuntime) -> Result<(), Fail> {
     }
     Ok(())
 }
+
+/// The sum of the entries of two rows with two columns, below 7, or the fault. The text begins on line 5.
+fn rows_sum(alloc: Global, text: &str) -> Result<u64, MatrixFault> {
+    let bytes = text.as_bytes();
+    if bytes.len() > 1000 {
+        return Err(MatrixFault::Memory);
+    }
+    match (Modulus::new(7), scan(alloc, bytes, 5)) {
+        (Some(seven), Ok(tokens)) => {
+            let (matrix, rest) = read_rows(alloc, bytes, 5, seven, 2, 2, &tokens)?;
+            let sum = matrix
+                .entries()
+                .iter()
+                .fold(0, |sum: u64, x| sum.wrapping_add(*x));
+            Ok(sum.wrapping_add(100 * (rest.len() as u64 % 100)))
+        }
+        _ => Err(MatrixFault::Memory),
+    }
+}
+
+#[test]
+fn rows_are_read_on_their_lines(rt: HostRuntime) -> Result<(), Fail> {
+    let alloc = rt.alloc();
+    let cases = [
+        ("1 2\n3 4\nend\n", Ok(10)),
+        ("1 2\n3 4\nend", Ok(10)),
+        ("\n1 2\n3 4\nend\nmore of it\n", Ok(310)),
+        ("1 2\n3 7\nend\n", Err(MatrixFault::EntryRange { line: 6 })),
+        ("1 2\n3 4", Err(MatrixFault::Syntax { line: 6 })),
+        ("1 2\n3 4\n", Err(MatrixFault::Syntax { line: 7 })),
+        ("1 2\nend\n", Err(MatrixFault::RowLength { line: 6 })),
+    ];
+    for (text, due) in cases {
+        assert_eq!(rt; rows_sum(alloc, text), due, "{text}");
+    }
+    Ok(())
+}

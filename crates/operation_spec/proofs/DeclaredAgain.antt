@@ -6,9 +6,9 @@ use Rattle.std.proofs.lemmas.Bool.{lt-ltb, le-ltb, lt-leb}
 use Rattle.std.proofs.lemmas.List.Sums.{list_all-from_AllPass}
 use Rattle.structure_rules.specs.declared.Structure.{Structure}
 use Rattle.structure_rules.specs.declared.Structure.TheVariants.{General, Lower, UnitLower, Upper, UnitUpper, Diagonal, Symmetric}
-use Rattle.text_scan.specs.Faults.{Test, first_fault}
 use Rattle.text_scan.specs.Lines.{Line}
 use Rattle.text_scan.specs.Words.{is_name}
+use Rattle.text_scan.proofs.FaultTests.{passes_by}
 use Rattle.operation_spec.specs.declared.operation.Operand.{Operand}
 use Rattle.operation_spec.specs.Equations.{is_general, may_be_work}
 use Rattle.operation_spec.specs.OperationFaults.{name_at, dims_at, work_at, known_at, names_of, structure_of, operand_of, is_operand_line, is_name_taken, has_unknown_dim, is_misshapen}
@@ -73,33 +73,26 @@ is_misshapen-square o square = square_or_general o.structure o.rows o.cols squar
 
 -- ---- the work operand and a known one
 
--- five tests of which none holds
-pub none_holds : {F A : Type 0} (a b c d e : Test F) (x y : A) → a.holds ≡ false → b.holds ≡ false → c.holds ≡ false → d.holds ≡ false → e.holds ≡ false → x ≡ y
-    → first_fault (a ∷ b ∷ c ∷ d ∷ e ∷ []) x ≡ Ok y
-none_holds a b c d e x y not_a not_b not_c not_d not_e same = rw (not_a, not_b, not_c, not_d, not_e, same) refl
-
 pub work_at-line : (dims : List (List ℕ)) (line : Line) (o : Operand) → line.words ≡ operand_line dims (codes "work") o → AreDims dims → IsNamedOperand dims o
     → IsTrue (may_be_work o.structure) → work_at dims line ≡ Ok o
 unfolding work_at
 work_at-line dims line o words are named may =
     let read : operand_of dims line.words ≡ o = ap (operand_of dims) words ∙ operand_of-line dims (codes "work") o are named in
-    none_holds _ _ _ _ _ _ _
-    (ap (λ ws. not (is_operand_line (codes "work") ws)) words ∙ ap not (is_operand_line-line dims (codes "work") o are named))
-    (ap (λ (r : Operand). is_name_taken [] r.name) read ∙ is_name_taken-free [] o.name named.is.not_solution (λ k d none. absurd (omega arith)))
-    (ap (has_unknown_dim dims) words ∙ has_unknown_dim-line dims (codes "work") o are named)
-    (ap is_misshapen read ∙ is_misshapen-square o named.is.square)
-    (ap (λ (r : Operand). not (may_be_work r.structure)) read ∙ ap not may)
-    read
+    passes_by _ (ap (λ ws. not (is_operand_line (codes "work") ws)) words ∙ ap not (is_operand_line-line dims (codes "work") o are named))
+    (passes_by _ (ap (λ (r : Operand). is_name_taken [] r.name) read ∙ is_name_taken-free [] o.name named.is.not_solution (λ k d none. absurd (omega arith)))
+    (passes_by _ (ap (has_unknown_dim dims) words ∙ has_unknown_dim-line dims (codes "work") o are named)
+    (passes_by _ (ap is_misshapen read ∙ is_misshapen-square o named.is.square)
+    (passes_by _ (ap (λ (r : Operand). not (may_be_work r.structure)) read ∙ ap not may)
+    (ap (λ (r : Operand). Ok r) read)))))
 
 pub known_at-line : (dims : List (List ℕ)) (work : Operand) (found : List Operand) (line : Line) (o : Operand) → line.words ≡ operand_line dims (codes "known") o → AreDims dims → IsNamedOperand dims o
     → length found < known_limit → All (λ name. name ≢ o.name) (names_of work found) → known_at dims work found line ≡ Ok o
 unfolding known_at
 known_at-line dims work found line o words are named few others =
     let read : operand_of dims line.words ≡ o = ap (operand_of dims) words ∙ operand_of-line dims (codes "known") o are named in
-    none_holds _ _ _ _ _ _ _
-    (ap (λ ws. not (is_operand_line (codes "known") ws)) words ∙ ap not (is_operand_line-line dims (codes "known") o are named))
-    (lt-leb known_limit (length found) few)
-    (ap (λ (r : Operand). is_name_taken (names_of work found) r.name) read ∙ is_name_taken-free (names_of work found) o.name named.is.not_solution others)
-    (ap (has_unknown_dim dims) words ∙ has_unknown_dim-line dims (codes "known") o are named)
-    (ap is_misshapen read ∙ is_misshapen-square o named.is.square)
-    read
+    passes_by _ (ap (λ ws. not (is_operand_line (codes "known") ws)) words ∙ ap not (is_operand_line-line dims (codes "known") o are named))
+    (passes_by _ (lt-leb known_limit (length found) few)
+    (passes_by _ (ap (λ (r : Operand). is_name_taken (names_of work found) r.name) read ∙ is_name_taken-free (names_of work found) o.name named.is.not_solution others)
+    (passes_by _ (ap (has_unknown_dim dims) words ∙ has_unknown_dim-line dims (codes "known") o are named)
+    (passes_by _ (ap is_misshapen read ∙ is_misshapen-square o named.is.square)
+    (ap (λ (r : Operand). Ok r) read)))))

@@ -1,7 +1,6 @@
 -- Lines of known operands, one after another.
-use Rattle.std.proofs.Common.{◌≡◌, ℕ, Bool, true, false, cond, ◌==◌, List, [], ◌∷◌, ◌++◌, ◌-◌, length, take, drop, codes, Result, Ok, Err, Option, Some, None, refl, sym, ap, ◌∙◌, append_assoc, length-append, arith}
+use Rattle.std.proofs.Common.{◌≡◌, ℕ, Bool, true, false, cond, ◌==◌, List, [], ◌∷◌, ◌++◌, codes, Result, Ok, Err, Option, Some, None, refl, sym, ap, ◌∙◌}
 use Rattle.std.proofs.lemmas.Bool.{eqb-true}
-use Rattle.std.proofs.lemmas.List.{take-append-drop, drop_at}
 use Rattle.byte_texts.specs.Reading.{◌>>=◌, EndsWith}
 use Rattle.text_scan.specs.declared.lines.TokenLine.{TokenLine}
 use Rattle.text_scan.specs.declared.token.Token.{Token}
@@ -12,31 +11,13 @@ use Rattle.operation_spec.specs.declared.fault.SpecFault.{SpecFault}
 use Rattle.operation_spec.specs.declared.fault.SpecFault.TheVariants.{Syntax}
 use Rattle.operation_spec.specs.declared.operation.Operand.{Operand}
 use Rattle.operation_spec.specs.OperationFaults.{Knowns, begins_with, known_at, knowns_at, or_syntax}
-use Rattle.operation_spec.specs.TokenLines.{HasEnd, IsLineOf}
+use Rattle.operation_spec.specs.TokenLines.{IsLineOf}
 
 -- ---- tokens of lines
 
 -- both parts of a line are tokens of the text
 pub line_parts : (bytes : List ℕ) (tokens : List Token) (line : TokenLine) → AreTokens 1 bytes tokens → tokens ≡ line.tokens.now ++ line.rest.now → IsLineOf bytes tokens line
 line_parts bytes tokens line are split = record { split = split; own = AreTokens-front line.tokens.now line.rest.now split are; rest = AreTokens-back line.tokens.now line.rest.now split are }
-
--- tokens end in what is behind a line of those that they end in
-pub end_behind : (tokens rest next : List Token) (own : List Token) → HasEnd tokens rest → rest ≡ own ++ next → HasEnd tokens next
-end_behind tokens rest next own end split = record { front = end.front ++ own; split = end.split ∙ ap (λ ts. end.front ++ ts) split ∙ sym (append_assoc end.front own next) }
-
-pub end_of_line : (tokens own rest : List Token) → tokens ≡ own ++ rest → HasEnd tokens rest
-end_of_line tokens own rest split = record { front = own; split = split }
-
-pub ends_in_end : (tokens rest next : List Token) → HasEnd tokens rest → HasEnd rest next → HasEnd tokens next
-ends_in_end tokens rest next end more = end_behind tokens rest next more.front end more.split
-
--- where what they end in begins
-pub end_place : (tokens rest : List Token) (at count : ℕ) → count ≡ length tokens → HasEnd (drop at tokens) rest → drop (count - length rest) tokens ≡ rest
-end_place tokens rest at count is end =
-    let front = take at tokens ++ end.front in
-    let split : tokens ≡ front ++ rest = sym (take-append-drop at tokens) ∙ ap (λ back. take at tokens ++ back) end.split ∙ sym (append_assoc (take at tokens) end.front rest) in
-    let place : count - length rest ≡ length front = omega (arith, is, ap length split, length-append front rest) in
-    rw place (ap (drop (length front)) split ∙ drop_at front rest (length front) refl)
 
 -- ---- going on behind a step
 

@@ -7,7 +7,7 @@ use Rattle.std.proofs.lemmas.Bool.{lt-ltb, le-ltb, ne_eqb, and_from, or_right, a
 use Rattle.std.proofs.lemmas.List.{length-map, map-append, get_or-map}
 use Rattle.std.proofs.lemmas.List.Folds.{list_all_at, list_all-map}
 use Rattle.std.proofs.lemmas.List.Sums.{list_all-from_AllPass}
-use Rattle.text_scan.specs.Faults.{Test, first_fault}
+use Rattle.text_scan.proofs.FaultTests.{passes_by}
 use Rattle.operation_spec.specs.declared.equation.Side.{Side}
 use Rattle.operation_spec.specs.declared.operation.Factor.{Factor}
 use Rattle.operation_spec.specs.declared.operation.Form.{Form}
@@ -105,16 +105,11 @@ is_malformed-valid op valid =
     none_of_four : (a b c d : Bool) → a ≡ false → b ≡ true → c ≡ true → d ≡ true → (a || not b || not c || not d) ≡ false
     none_of_four a b c d not_a is_b is_c is_d = rw (not_a, is_b, is_c, is_d) refl
 
--- four tests of which none holds
-none_holds : {F A : Type 0} (a b c d : Test F) (x : A) → a.holds ≡ false → b.holds ≡ false → c.holds ≡ false → d.holds ≡ false → first_fault (a ∷ b ∷ c ∷ d ∷ []) x ≡ Ok x
-none_holds a b c d x not_a not_b not_c not_d = rw (not_a, not_b, not_c, not_d) refl
-
 pub sides_at-valid : (op : Operation) (line : ℕ) → IsValid op → sides_at op.dims op.work op.knowns line (equation_of_operation op) ≡ Ok (equation_of_operation op)
 unfolding sides_at
 sides_at-valid op line valid =
     let few : length (map product_of_term op.terms) ≤ term_limit = omega (arith, length-map op.terms product_of_term, valid.few_terms) in
-    none_holds _ _ _ _ _
-    (has_unknown_side-none op valid.factors)
-    (le-ltb term_limit (length (map product_of_term op.terms)) few)
-    (ap not valid.sizes)
-    (is_malformed-valid op valid)
+    passes_by _ (has_unknown_side-none op valid.factors)
+    (passes_by _ (le-ltb term_limit (length (map product_of_term op.terms)) few)
+    (passes_by _ (ap not valid.sizes)
+    (passes_by _ (is_malformed-valid op valid) refl)))

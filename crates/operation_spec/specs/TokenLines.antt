@@ -14,11 +14,6 @@ words_of bytes tokens = map (word bytes) tokens
 abbrev pub line_at : ℕ → List ℕ → List Token → Line
 line_at number bytes tokens = record { number = number; words = words_of bytes tokens }
 
--- tokens end in these
-pub record HasEnd (tokens rest : List Token) : Type 0 where
-  pub front : List Token
-  pub split : tokens ≡ front ++ rest
-
 -- a line of tokens of a text, and those behind it
 pub record IsLineOf (bytes : List ℕ) (tokens : List Token) (line : TokenLine) : Type 0 where
   pub split : tokens ≡ line.tokens.now ++ line.rest.now

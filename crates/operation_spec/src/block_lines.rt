@@ -15,7 +15,7 @@ use text_scan::{Name, NameList, Token};
 const DIM_LIMIT: usize = 6;
 
 /// Whether the line is `operation NAME`.
-fn is_name_line(bytes: &[u8], tokens: &[Token]) -> bool
+pub fn is_name_line(bytes: &[u8], tokens: &[Token]) -> bool
     requires { AreTokens 1 bytes.now tokens.now }
     ensures { result ≡ is_name_line (words_of bytes.now tokens.now) }
 {

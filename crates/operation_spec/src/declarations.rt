@@ -2,11 +2,12 @@
 
 ghost use Rattle.std.specs.Prelude.{◌≤◌, [], length, IfOk};
 ghost use Rattle.byte_texts.specs.Reading.{Gives};
+ghost use Rattle.text_scan.specs.Ends.{HasEnd};
 ghost use Rattle.text_scan.specs.Lines.{due_line, end_line_of, inner_line, lines_of};
 ghost use Rattle.text_scan.specs.Scanned.{AreTokens};
 ghost use Rattle.operation_spec.specs.BlocksSeen.{declared_seen, knowns_seen};
 ghost use Rattle.operation_spec.specs.OperationFaults.{declared_at, knowns_at, or_syntax, text_fault};
-ghost use Rattle.operation_spec.specs.TokenLines.{HasEnd, IsLineOf, line_at};
+ghost use Rattle.operation_spec.specs.TokenLines.{IsLineOf, line_at};
 
 use crate::block_lines::read_dims;
 use crate::fault::SpecFault;

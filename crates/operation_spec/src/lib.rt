@@ -27,12 +27,19 @@ mod task;
 mod words;
 mod writing;
 
+pub use block_lines::is_name_line;
 pub use fault::SpecFault;
+pub use names::{are_names, number_of};
 pub use operation::{Binding, Factor, Form, Operand, OperandList, Operation, Term, TermList};
 pub use reading::read_operation;
 pub use split::{Dir, Dirs, Split, valid_split};
 pub use task::{Kind, Task, TaskList};
+pub use words::put_word;
 pub use writing::write_operation;
 
+#[cfg(test)]
+mod equation_fault_tests;
+#[cfg(test)]
+mod line_fault_tests;
 #[cfg(test)]
 mod tests;

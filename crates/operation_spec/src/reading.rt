@@ -2,11 +2,11 @@
 
 ghost use Rattle.std.specs.Prelude.{◌≡◌, ◌≤◌, length, drop, map, Ok, IfOk};
 ghost use Rattle.byte_texts.specs.Reading.{Gives};
+ghost use Rattle.text_scan.specs.Ends.{HasEnd};
 ghost use Rattle.text_scan.specs.Lines.{end_line_of, lines_of};
 ghost use Rattle.text_scan.specs.Scanned.{AreTokens};
 ghost use Rattle.text_scan.specs.Tokens.{tokens_of};
 ghost use Rattle.operation_spec.specs.OperationFaults.{form_of, operation_at, term_of, text_fault};
-ghost use Rattle.operation_spec.specs.TokenLines.{HasEnd};
 ghost use Rattle.operation_spec.specs.ValidOperations.{SpellsOperation};
 
 use crate::block_lines::{read_end, read_name};

@@ -12,6 +12,7 @@ pub mod NumberedLines
 pub mod Pieces
 pub mod ScannedTokens
 mod Steps
+pub mod TokenEnds
 pub mod TokenParts
 pub mod WordFronts
 mod WorkedTokenization

@@ -1,5 +1,5 @@
 -- Lines with their numbers. Cited by the laws of what is printed and read again.
-use Rattle.std.proofs.Common.{◌≡◌, ℕ, ◌+◌, List, [], ◌∷◌, ◌++◌, map, refl, ap}
+use Rattle.std.proofs.Common.{◌≡◌, ℕ, ◌+◌, List, [], ◌∷◌, map, refl, ap}
 use Rattle.text_scan.specs.Lines.{Line}
 use Rattle.text_scan.specs.NormalTexts.{numbered_lines}
 

@@ -4,4 +4,4 @@ use Rattle.matrix_text.proofs.WordLists.{heading_words}
 use Rattle.matrix_text.proofs.reading.first_line.Goals as goal
 
 pub shape_of-requires-in-len4-clause-cols_number : goal.shape_of-requires-in-len4-clause-cols_number
-shape_of-requires-in-len4-clause-cols_number c = (heading_words (word c.args.bytes.now) c.args.line.tokens.now (sym c.if-is_first_line.ensures)).cols_number _
+shape_of-requires-in-len4-clause-cols_number c = (heading_words (word c.args.bytes.now) c.args.line.tokens.now (sym c.if-is_heading.ensures)).cols_number _

@@ -1,4 +1,4 @@
-use Rattle.operation_spec.proofs.KnownLines.{end_behind, end_of_line, ends_in_end}
+use Rattle.text_scan.proofs.TokenEnds.{end_behind, end_of_line, ends_in_end}
 use Rattle.operation_spec.proofs.declarations.read_declarations.Goals as goal
 
 pub returns-clause-end : goal.returns-clause-end

@@ -1,9 +1,10 @@
 use Rattle.std.proofs.Common.{◌≡◌, ◌∙◌, ◌∷◌, [], codes, true, Ok, length, sym, ap, arith, length-append}
 use Rattle.std.proofs.lemmas.Result.{err_from_is_err_and}
 use Rattle.text_scan.specs.Lines.{end_line_of, lines_of}
+use Rattle.text_scan.proofs.TokenEnds.{end_behind, end_of_line}
 use Rattle.operation_spec.specs.OperationFaults.{begins_with, known_at, text_fault}
 use Rattle.operation_spec.specs.TokenLines.{line_at}
-use Rattle.operation_spec.proofs.KnownLines.{end_behind, end_of_line, knowns_at-fault, knowns_at-line, knowns_from-end, knowns_from-next}
+use Rattle.operation_spec.proofs.KnownLines.{knowns_at-fault, knowns_at-line, knowns_from-end, knowns_from-next}
 use Rattle.operation_spec.proofs.declarations.read_knowns.Goals as goal
 
 pub returns-in_err-line-clause-knowns : goal.returns-in_err-line-clause-knowns

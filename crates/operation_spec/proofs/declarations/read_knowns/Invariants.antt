@@ -1,8 +1,9 @@
 use Rattle.std.proofs.Common.{◌≡◌, ◌≤◌, ◌+◌, [], length}
+use Rattle.text_scan.specs.Ends.{HasEnd}
 use Rattle.text_scan.specs.Lines.{end_line_of, lines_of}
 use Rattle.text_scan.specs.Scanned.{AreTokens}
 use Rattle.operation_spec.specs.OperationFaults.{knowns_at}
-use Rattle.operation_spec.specs.TokenLines.{HasEnd, line_at}
+use Rattle.operation_spec.specs.TokenLines.{line_at}
 use Rattle.operation_spec.proofs.KnownLines.{knowns_from}
 use Rattle.operation_spec.proofs.declarations.read_knowns.Given as goal
 

@@ -1,14 +1,14 @@
 use Rattle.std.proofs.Common.{◌≡◌, ◌-◌, ◌∙◌, Ok, List, drop, length, sym, ap, subst, arith}
 use Rattle.std.proofs.lemmas.List.{take_rest}
 use Rattle.text_scan.specs.declared.token.Token.{Token}
+use Rattle.text_scan.specs.Ends.{HasEnd}
 use Rattle.text_scan.specs.Lines.{end_line_of, lines_of}
 use Rattle.text_scan.specs.Scanned.{AreTokens}
 use Rattle.text_scan.proofs.LineOrders.{AreLines-from_tokens}
 use Rattle.text_scan.proofs.ScannedTokens.{AreTokens-scanned}
+use Rattle.text_scan.proofs.TokenEnds.{end_place}
 use Rattle.text_scan.proofs.TokenParts.{AreTokens-drop}
 use Rattle.operation_spec.specs.OperationFaults.{operation_at}
-use Rattle.operation_spec.specs.TokenLines.{HasEnd}
-use Rattle.operation_spec.proofs.KnownLines.{end_place}
 use Rattle.operation_spec.proofs.OperationTaken.{operation_taken}
 use Rattle.operation_spec.proofs.TokenSlices.{tokens_behind}
 use Rattle.operation_spec.proofs.reading.read_operation.Goals as goal

@@ -1,7 +1,7 @@
 use Rattle.std.proofs.Common.{arith}
 use Rattle.text_scan.specs.Words.{word}
 use Rattle.matrix_text.proofs.WordLists.{no_heading}
-use Rattle.matrix_text.proofs.reading.is_first_line.Goals as goal
+use Rattle.matrix_text.proofs.reading.is_heading.Goals as goal
 
 pub returns-in_default : goal.returns-in_default
 returns-in_default c = no_heading (word c.args.bytes.now) c.args.tokens.now (λ four. omega arith)
