@@ -77,6 +77,10 @@ ldl_bad_pivot_unique m n two r k k' bad bad' = elim (cases_order k k') [
     earlier a b first second h =
         ldl_bad_pivot_elsewhere m n two r second.l second.d a first (IsLdl-leading m (b + 1) (a + 1) r second.l second.d (omega arith) second.factors) (second.units a h)
 
+-- a bad pivot of one leading block is one of each other leading block that reaches it
+pub IsLdlBadPivot-within : (m n n' k : ℕ) (r : Table) → k < n' → IsLdlBadPivot m n r k → IsLdlBadPivot m n' r k
+IsLdlBadPivot-within m n n' k r within bad = record { within = within; l = bad.l; d = bad.d; factors = bad.factors; units = bad.units; bad = bad.bad }
+
 -- a matrix with factors whose pivots are units has no bad pivot
 pub no_ldl_bad_pivot : (m n : ℕ) → 2 ≤ m → (r l d : Table) → IsLdl m n r l d → ((i : ℕ) → i < n → IsUnit m (d i i)) → (k : ℕ) → ¬ (IsLdlBadPivot m n r k)
 no_ldl_bad_pivot m n two r l d factors units k bad =
@@ -101,8 +105,8 @@ ldl_units m n two r l d factors none i row = below n i row row
       }))
     ]
 
--- a matrix with no bad pivot has factors
-pub ldl_solution : (m n : ℕ) → 2 ≤ m → (r other : Table) → ((k : ℕ) → ¬ (IsLdlBadPivot m n r k))
+-- a matrix with no bad pivot before the last place has factors, whatever its last pivot is
+pub ldl_solution : (m n : ℕ) → 2 ≤ m → (r other : Table) → ((k : ℕ) → k + 1 < n → ¬ (IsLdlBadPivot m n r k))
     → Solution m (IsEntry n n Lower) (λ w i j. Cong m (product n (product n (view UnitLower w) (view Diagonal w)) (transpose (view UnitLower w)) i j) (r i j)) other
 ldl_solution m n two r other none = record {
   table = found.table;
@@ -111,11 +115,12 @@ ldl_solution m n two r other none = record {
   kept = found.kept;
 }
   where
+    -- each pivot that an entry is divided by belongs to a smaller block, so it is a unit
     units : (x : Table) (i j : ℕ) → IsEntry n n Lower i j → SolvesBelow m (IsEntry n n Lower) (rowwise n (λ k. k) (λ k. k)) ldl_left r x (rowwise n (λ k. k) (λ k. k) i j)
         → IsUnit m (pivot_of x i j)
     units x i j entry before = pivot_of-unit m i j x two (λ below. IsUnit-Cong m (view Diagonal x j j) (x j j) (Cong-from_same (view-diagonal_here x j j refl))
         (ldl_units m (j + 1) two r (view UnitLower x) (view Diagonal x) (leading below)
-        (λ k bad. none k (record { within = (let small : k < j + 1 = bad.within in let col : j < n = entry.col in omega arith); l = bad.l; d = bad.d; factors = bad.factors; units = bad.units; bad = bad.bad }))
+        (λ k bad. none k (omega (arith, bad.within, entry.row, below)) (IsLdlBadPivot-within m (j + 1) n k r (omega (arith, bad.within, entry.col)) bad))
         j (omega arith)))
       where
         leading : j < i → IsLdl m (j + 1) r (view UnitLower x) (view Diagonal x)

@@ -75,6 +75,10 @@ lu_bad_pivot_unique m n two r k k' bad bad' = elim (cases_order k k') [
     earlier a b first second h =
         lu_bad_pivot_elsewhere m n two r second.l second.u a first (IsLu-leading m (b + 1) (a + 1) r second.l second.u (omega arith) second.factors) (second.units a h)
 
+-- a bad pivot of one leading block is one of each other leading block that reaches it
+pub IsLuBadPivot-within : (m n n' k : ℕ) (r : Table) → k < n' → IsLuBadPivot m n r k → IsLuBadPivot m n' r k
+IsLuBadPivot-within m n n' k r within bad = record { within = within; l = bad.l; u = bad.u; factors = bad.factors; units = bad.units; bad = bad.bad }
+
 -- a matrix with factors whose pivots are units has no bad pivot
 pub no_lu_bad_pivot : (m n : ℕ) → 2 ≤ m → (r l u : Table) → IsLu m n r l u → ((i : ℕ) → i < n → IsUnit m (u i i)) → (k : ℕ) → ¬ (IsLuBadPivot m n r k)
 no_lu_bad_pivot m n two r l u factors units k bad =
@@ -99,8 +103,8 @@ lu_units m n two r l u factors none i row = below n i row row
       }))
     ]
 
--- a matrix with no bad pivot has factors
-pub lu_solution : (m n : ℕ) → 2 ≤ m → (r other : Table) → ((k : ℕ) → ¬ (IsLuBadPivot m n r k))
+-- a matrix with no bad pivot before the last place has factors, whatever its last pivot is
+pub lu_solution : (m n : ℕ) → 2 ≤ m → (r other : Table) → ((k : ℕ) → k + 1 < n → ¬ (IsLuBadPivot m n r k))
     → Solution m (IsEntry n n General) (λ w i j. Cong m (product n (view UnitLower w) (view Upper w) i j) (r i j)) other
 lu_solution m n two r other none = record {
   table = found.table;
@@ -109,11 +113,12 @@ lu_solution m n two r other none = record {
   kept = found.kept;
 }
   where
+    -- each pivot that an entry is divided by belongs to a smaller block, so it is a unit
     units : (x : Table) (i j : ℕ) → IsEntry n n General i j → SolvesBelow m (IsEntry n n General) (rowwise n (λ k. k) (λ k. k)) lu_left r x (rowwise n (λ k. k) (λ k. k) i j)
         → IsUnit m (pivot_of x i j)
     units x i j entry before = pivot_of-unit m i j x two (λ below. IsUnit-Cong m (view Upper x j j) (x j j) (Cong-from_same (view-upper_above x j j (omega arith)))
         (lu_units m (j + 1) two r (view UnitLower x) (view Upper x) (leading below)
-        (λ k bad. none k (record { within = (let small : k < j + 1 = bad.within in let col : j < n = entry.col in omega arith); l = bad.l; u = bad.u; factors = bad.factors; units = bad.units; bad = bad.bad }))
+        (λ k bad. none k (omega (arith, bad.within, entry.row, below)) (IsLuBadPivot-within m (j + 1) n k r (omega (arith, bad.within, entry.col)) bad))
         j (omega arith)))
       where
         leading : j < i → IsLu m (j + 1) r (view UnitLower x) (view Upper x)
