@@ -1,0 +1,4 @@
+pub mod Equations
+pub mod Jobs
+pub mod Meanings
+pub mod Pivots
