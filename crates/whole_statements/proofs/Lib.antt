@@ -1,0 +1,7 @@
+mod FactorProducts
+mod FilledRows
+mod GridResidues
+mod ProductRows
+mod StatementsSoFar
+mod TermSizes
+mod TermsSoFar

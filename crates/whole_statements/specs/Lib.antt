@@ -1,0 +1,2 @@
+pub mod AddedTerms
+pub mod OrientedViews
