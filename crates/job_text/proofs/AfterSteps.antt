@@ -1,0 +1,91 @@
+-- Steps of reading the blocks of matrices as they stand after statements. Cited by their reader.
+use Rattle.std.proofs.Common.{◌≡◌, ◌≢◌, ℕ, ◌+◌, ◌<◌, ◌≤◌, false, ◌&&◌, List, [], ◌∷◌, ◌++◌, length, drop, map, get_or, slice_index_or, Option, Result, Ok, Err, IsTrue, refl, sym, ap, subst, ◌∙◌, arith, inl, inr}
+use Rattle.std.specs.Prelude.{codes}
+use Rattle.std.specs.Str.{bytes_eq}
+use Rattle.std.proofs.lemmas.Bool.{and_parts, cases_lt}
+use Rattle.std.proofs.lemmas.List.{length-map, at_drop_all, at_drop_more, get_or_default}
+use Rattle.residue_sums.specs.Grids.{Grid}
+use Rattle.byte_texts.specs.Reading.{◌>>=◌, EndsWith}
+use Rattle.text_scan.specs.Lines.{Line}
+use Rattle.text_scan.specs.Words.{is_name, is_number}
+use Rattle.equation.specs.declared.job.Job.{Job}
+use Rattle.equation.specs.declared.job.Statement.{Statement}
+use Rattle.job_text.specs.declared.fault.JobFault.{JobFault}
+use Rattle.job_text.specs.declared.fault.JobFault.TheVariants.{Syntax}
+use Rattle.job_text.specs.AfterBlocks.{HasShortSizes, work_grid, work_name}
+use Rattle.job_text.specs.AfterFaults.{after_at, block_at, blocks_at, is_after_line}
+use Rattle.job_text.specs.JobFaults.{nothing_at}
+use Rattle.job_text.proofs.FirstSteps.{ends_along, ends_first}
+
+-- ---- the first line of a block
+
+-- it has four words
+four_words : (words : List (List ℕ)) → length words ≢ 4 → false ≡ is_after_line words
+four_words [] other = refl
+four_words (a ∷ []) other = refl
+four_words (a ∷ b ∷ []) other = refl
+four_words (a ∷ b ∷ c ∷ []) other = refl
+four_words (a ∷ b ∷ c ∷ d ∷ []) other = absurd (other refl)
+four_words (a ∷ b ∷ c ∷ d ∷ e ∷ words) other = refl
+
+pub no_after_line : {X : Type 0} (text : X → List ℕ) (xs : List X) → length xs ≢ 4 → false ≡ is_after_line (map text xs)
+no_after_line text xs other = four_words (map text xs) (λ four. other (sym (length-map xs text) ∙ four))
+
+-- its last two words are numbers
+pub after_numbers : {X : Type 0} (text : X → List ℕ) (xs : List X) → IsTrue (is_after_line (map text xs)) → (d : X) → IsTrue (is_number (text (slice_index_or xs 2 d))) × IsTrue (is_number (text (slice_index_or xs 3 d)))
+after_numbers text [] is = absurd cc
+after_numbers text (a ∷ []) is = absurd cc
+after_numbers text (a ∷ b ∷ []) is = absurd cc
+after_numbers text (a ∷ b ∷ c ∷ []) is = absurd cc
+after_numbers text (a ∷ b ∷ c ∷ d ∷ []) is =
+    let last = and_parts (bytes_eq (text a) (codes "after") && is_name (text b) && is_number (text c)) (is_number (text d)) is in
+    let third = and_parts (bytes_eq (text a) (codes "after") && is_name (text b)) (is_number (text c)) last.0 in
+    λ x. (third.1, last.1)
+after_numbers text (a ∷ b ∷ c ∷ d ∷ e ∷ xs) is = absurd cc
+
+-- ---- no bytes are left
+
+pub nothing_due : (end : ℕ) (job : Job) → job.statements ≡ [] → after_at end job [] ≡ Ok []
+unfolding after_at blocks_at nothing_at
+nothing_due end job none = rw none refl
+
+blocks_due : (end : ℕ) (job : Job) (statements : List Statement) → statements ≢ [] → blocks_at end job [] statements [] ≡ Err (Syntax end)
+unfolding blocks_at block_at
+blocks_due end job [] some = absurd (some refl)
+blocks_due end job (s ∷ statements) some = refl
+
+pub still_due : (end : ℕ) (job : Job) → job.statements ≢ [] → after_at end job [] ≡ Err (Syntax end)
+unfolding after_at
+still_due end job some = rw (blocks_due end job job.statements some) refl
+
+-- ---- block after block
+
+module _ (end : ℕ) (job : Job) (found : List Grid) (statements : List Statement) (i : ℕ) (lines : List Line) (all : Result (List Grid × List Line) JobFault)
+    (so_far : blocks_at end job found (drop i statements) lines ≡ all) where
+  abbrev block : Statement → Result (Grid × List Line) JobFault
+  block s = block_at end job.modulus (work_name job s) (work_grid job s) lines
+
+  next : (d : Statement) → i < length statements → all ≡ (block (get_or statements i d) >>= λ read. blocks_at end job (found ++ read.0 ∷ []) (drop (i + 1) statements) read.1)
+  unfolding blocks_at
+  next d inside = sym so_far ∙ at_drop_more (λ (ss : List Statement). blocks_at end job found ss lines) statements i d inside
+
+  pub block_found : (s : Statement) (g : Grid) (behind : List Line) → i < length statements → s ≡ get_or statements i s → block s ≡ Ok (g, behind) → blocks_at end job (found ++ g ∷ []) (drop (i + 1) statements) behind ≡ all
+  block_found s g behind inside is read =
+      let here : block (get_or statements i s) ≡ Ok (g, behind) = ap block (sym is) ∙ read in
+      sym (next s inside ∙ ap (λ (r : Result (Grid × List Line) JobFault). r >>= λ read. blocks_at end job (found ++ read.0 ∷ []) (drop (i + 1) statements) read.1) here)
+
+  pub block_refused : (s : Statement) (fault : Option JobFault) → i < length statements → s ≡ get_or statements i s → EndsWith fault (block s) → EndsWith fault all
+  block_refused s fault inside is ends = ends_along fault all _ (next s inside) (ends_first fault (block (get_or statements i s)) _ (subst (λ (t : Statement). EndsWith fault (block t)) is ends))
+
+  pub blocks_end : length statements ≤ i → all ≡ Ok (found, lines)
+  unfolding blocks_at
+  blocks_end past = sym so_far ∙ at_drop_all (λ (ss : List Statement). blocks_at end job found ss lines) statements i past
+
+-- ---- the sizes of the work matrices so far
+
+pub one_size_more : (job : Job) (statements : List Statement) (i : ℕ) (s : Statement) → i < length statements → s ≡ get_or statements i s → HasShortSizes (work_grid job s)
+    → ((k : ℕ) (d : Statement) → k < i → HasShortSizes (work_grid job (get_or statements k d))) → (k : ℕ) (d : Statement) → k < i + 1 → HasShortSizes (work_grid job (get_or statements k d))
+one_size_more job statements i s inside is short before k d below = elim (cases_lt k i) [
+  | inl lt ↦ before k d lt
+  | inr ge ↦ let same : k ≡ i = omega arith in rw same (subst (λ (t : Statement). HasShortSizes (work_grid job t)) (is ∙ get_or_default statements i s d inside) short)
+]

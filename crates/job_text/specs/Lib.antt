@@ -1,0 +1,9 @@
+pub mod AfterBlocks
+pub mod AfterFaults
+pub mod JobFaults
+pub mod JobLines
+pub mod JobTexts
+pub mod MatricesSeen
+pub mod SecondParts
+pub mod Sections
+pub mod SpelledJobs
