@@ -1,2 +1,3 @@
 pub mod FamilyTexts
+pub mod ResultTexts
 pub mod TaskTexts
