@@ -1,17 +1,17 @@
 -- A decimal number that is read is what is printed of it, and what is printed is read again. Cited by
--- the laws of every text with numbers, and by the words of a command.
-use Rattle.std.proofs.Common.{◌≡◌, ℕ, ◌<◌, ◌^◌, Bool, true, false, nat_lt, not, ◌&&◌, ◌||◌, ◌==◌, cond, List, [], ◌∷◌, ◌++◌, length, get_or, take, drop, Some, None, refl, sym, ap, ◌∙◌, arith, inl, inr, take-append-drop}
+-- the laws of words that are numbers, and by the words of a command.
+use Rattle.std.proofs.Common.{◌≡◌, ℕ, ◌<◌, ◌^◌, Bool, true, false, nat_lt, not, ◌&&◌, ◌||◌, ◌==◌, cond, List, [], ◌++◌, length, get_or, take, drop, Some, None, refl, sym, ap, ◌∙◌, arith, inl, inr, take-append-drop}
 use Rattle.std.specs.List.{prefix_len}
 use Rattle.std.specs.Char.{is_ascii_digit}
 use Rattle.std.specs.Fmt.{decimal}
 use Rattle.std.specs.Str.Parse.{AllDigits, digits_value}
 use Rattle.std.proofs.lemmas.Bool.{ltb-true, lt-ltb, cases_lt}
 use Rattle.std.proofs.lemmas.Bool.Decides.{nat_tests}
-use Rattle.std.proofs.lemmas.List.{take_at, drop_at, take_all, drop_all}
+use Rattle.std.proofs.lemmas.List.{take_all, drop_all}
 use Rattle.std.proofs.lemmas.Str.Parse.{IsNumeralModel, numerals_by_value, tells_digits}
 use Rattle.std.proofs.lemmas.Fmt.{decimal-digits_value, digits_value-decimal, digits_decimal, decimal_nonempty, first_decimal, decimal_digit}
 use Rattle.byte_texts.specs.Decimals.{is_decimal, decimal_at}
-use Rattle.byte_texts.proofs.Digits.{leading_digits, digits_end, digits_only}
+use Rattle.byte_texts.proofs.Digits.{leading_digits, digits_only}
 
 by_digits : IsNumeralModel (AllDigits 10) (digits_value 10)
 by_digits = numerals_by_value (AllDigits 10) tells_digits
@@ -58,15 +58,7 @@ printed_passes n below =
     let value = digits_value-decimal by_digits n (omega arith) in
     rw (some, no_needless_zero n below, value, lt-ltb n (2 ^ 64) below) refl
 
--- what is spelled so is read, where no digit follows
-pub decimal_again : (n end : ℕ) (rest : List ℕ) → n < 2 ^ 64 → is_ascii_digit end ≡ false → decimal_at (decimal n ++ end ∷ rest) ≡ Some (n, end ∷ rest)
-unfolding decimal_at
-decimal_again n end rest below none =
-    let digits = digits_decimal by_digits n (omega arith) in
-    let k = digits_end (decimal n) end rest digits none in
-    rw (k, take_at (decimal n) (end ∷ rest) (length (decimal n)) refl, drop_at (decimal n) (end ∷ rest) (length (decimal n)) refl, printed_passes n below, digits_value-decimal by_digits n (omega arith)) refl
-
--- and where nothing follows
+-- what is spelled so is read
 pub decimal_alone : (n : ℕ) → n < 2 ^ 64 → decimal_at (decimal n) ≡ Some (n, [])
 unfolding decimal_at
 decimal_alone n below =

@@ -1,5 +1,5 @@
 -- Digits at the front of bytes, and the number that they are.
-use Rattle.std.proofs.Common.{◌≡◌, ℕ, suc, ◌+◌, ◌-◌, ◌*◌, ◌<◌, ◌≤◌, Bool, true, false, cond, List, [], ◌∷◌, ◌++◌, length, get_or, take, refl, arith}
+use Rattle.std.proofs.Common.{◌≡◌, ℕ, suc, ◌+◌, ◌-◌, ◌*◌, ◌<◌, ◌≤◌, Bool, true, false, cond, List, [], ◌∷◌, length, get_or, take, refl, arith}
 use Rattle.std.specs.List.{prefix_len}
 use Rattle.std.specs.Char.{is_ascii_digit, digit_value}
 use Rattle.std.specs.Int.{IsInRange}
@@ -27,14 +27,6 @@ one_digit_before c cs false is rest = tt
 pub leading_digits : (bytes : List ℕ) → AllDigits 10 (take (prefix_len is_ascii_digit bytes) bytes)
 leading_digits [] = tt
 leading_digits (c ∷ cs) = one_digit_before c cs (is_ascii_digit c) refl (leading_digits cs)
-
--- the leading digits end at a byte that is none
-pub digits_end : (ds : List ℕ) (end : ℕ) (rest : List ℕ) → AllDigits 10 ds → is_ascii_digit end ≡ false → prefix_len is_ascii_digit (ds ++ end ∷ rest) ≡ length ds
-digits_end [] end rest digits none = rw none refl
-digits_end (d ∷ ds) end rest digits none =
-    let here = digit_is_ascii d digits.0 in
-    let there = digits_end ds end rest digits.1 none in
-    rw here (omega (arith, there))
 
 -- bytes that are all digits
 pub digits_only : (ds : List ℕ) → AllDigits 10 ds → prefix_len is_ascii_digit ds ≡ length ds

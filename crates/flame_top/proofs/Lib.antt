@@ -2,11 +2,9 @@ mod Answering
 mod CommandWords
 mod DueLaws
 mod DueStatuses
-mod EarlyEntries
-mod EarlyJobs
-mod EarlyMatrices
-mod EarlyNumbers
+mod FirstWithout
 mod FiveItems
-mod ProductRows
+mod NamedCommands
+mod SomethingDue
 mod WordNumbers
 mod WorkedRows

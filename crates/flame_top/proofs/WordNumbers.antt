@@ -1,5 +1,5 @@
 -- A word that is a number as a whole.
-use Rattle.std.proofs.Common.{◌≡◌, ◌≢◌, ℕ, ◌<◌, ◌^◌, List, [], ◌++◌, Some, None, sym, ap, ◌∙◌, append-nil}
+use Rattle.std.proofs.Common.{◌≡◌, ◌≢◌, inl, inr, ◌⊎◌, ℕ, ◌<◌, ◌^◌, List, [], ◌∷◌, ◌++◌, Option, Some, None, refl, sym, ap, ◌∙◌, append-nil}
 use Rattle.std.specs.Fmt.{decimal}
 use Rattle.byte_texts.specs.Decimals.{decimal_at}
 use Rattle.byte_texts.proofs.Binding.{same_some_pair}
@@ -21,3 +21,12 @@ pub no_number : (word : List ℕ) → decimal_at word ≡ None → (n : ℕ) →
 no_number word none n below is =
     let again : decimal_at word ≡ Some (n, []) = ap decimal_at is ∙ decimal_alone n below in
     absurd cc
+
+-- each word is a number or none
+pub number_or_none : (word : List ℕ) → ((n : ℕ) × (n < 2 ^ 64) × (word ≡ decimal n)) ⊎ ((n : ℕ) → n < 2 ^ 64 → word ≢ decimal n)
+number_or_none word = go (decimal_at word) refl
+  where
+    go : (read : Option (ℕ × List ℕ)) → decimal_at word ≡ read → ((n : ℕ) × (n < 2 ^ 64) × (word ≡ decimal n)) ⊎ ((n : ℕ) → n < 2 ^ 64 → word ≢ decimal n)
+    go None e = inr (no_number word e)
+    go (Some (n, [])) e = inl (n, (decimal_takes word n [] e).1, whole_word word n [] e refl)
+    go (Some (n, x ∷ rest)) e = inr (part_of_word word n (x ∷ rest) e (λ none. absurd cc))

@@ -1,8 +1,5 @@
 pub mod Answers
 pub mod Due
-pub mod EarlyOperation
-pub mod EarlyReading
-pub mod EarlyTexts
-pub mod Equation
-pub mod ProductRows
+pub mod Refusals
+pub mod Stages
 pub mod Words

@@ -17,7 +17,7 @@ pub struct RunWords {
 /// What the words ask for.
 #[derive(Clone, Copy, Debug, PartialEq, Eq)]
 pub enum Command {
-    /// `derive`: prints the family of the operation that the input states.
+    /// `derive`: prints the family of each operation of the input's job.
     Derive,
     /// `run --block B --workers K`: runs the job of the input.
     Run { words: RunWords },
@@ -28,8 +28,8 @@ fn word_number(word: &[u8]) -> Option<u64>
     ensures { MatchOption result ((n : ℕ) → n < 2 ^ 64 → word.now ≢ decimal n) (λ n. word.now ≡ decimal n) }
 {
     match read_decimal(word) {
-        Some((value, rest)) if rest.is_empty() => Some(value),
-        _ => None,
+        Some((value, rest)) => if rest.is_empty() { Some(value) } else { None },
+        None => None,
     }
 }
 

@@ -1,29 +1,10 @@
-ghost use Rattle.std.specs.Prelude.{◌≡◌};
-ghost use Rattle.flame_top.specs.declared.fault.EarlyFault.TheVariants.{Memory};
+use text_scan::Name;
 
-use std::alloc::{AllocError, AllocFailed};
-
-/// Why an input was not read as a job, or as the operation that it states.
-#[derive(Clone, Copy, Debug, PartialEq, Eq)]
-pub enum EarlyFault {
-    /// Memory ran out.
-    Memory,
-    /// The input is no early text of the kind that the command reads.
-    NotBuilt,
-}
-
-impl From<AllocError> for EarlyFault {
-    ghost from_gives = { λ _ e. e ≡ Memory };
-
-    fn from(_e: AllocError) -> EarlyFault {
-        EarlyFault::Memory
-    }
-}
-
-impl<T: Drop> From<AllocFailed<T>> for EarlyFault {
-    ghost from_gives = { λ _ e. e ≡ Memory };
-
-    fn from(_e: AllocFailed<T>) -> EarlyFault {
-        EarlyFault::Memory
-    }
+/// What a job asks for that isn't built so far.
+#[derive(Debug, Drop)]
+pub enum StageFault {
+    /// A statement, by its number from 1, whose operation isn't of the form `X = R`.
+    Statement { number: u32 },
+    /// An operation, by its name, that isn't of the form `X = R` with general operands alone.
+    Operation { name: Name },
 }

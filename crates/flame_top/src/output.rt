@@ -1,36 +1,20 @@
-ghost use Rattle.std.specs.Prelude.{◌≡◌, ◌≢◌, List, ℕ, IfOk, IsErrOf};
+//! The whole output of a command, from the source's bytes.
+
+ghost use Rattle.std.specs.Prelude.{◌≡◌, ◌≢◌, ◌≤◌, List, ℕ, length, IfOk, IsErrOf, codes};
 ghost use Rattle.std.specs.Io.KnownBytes.{Consumes, IsAtEnd};
 ghost use Rattle.outside_io.specs.Causes.{Rose};
-ghost use Rattle.invariant_family.specs.Families.{single_family_of};
-ghost use Rattle.variant_report.specs.FamilyTexts.{family_text};
-ghost use Rattle.flame_top.specs.EarlyOperation.{early_operation};
-ghost use Rattle.flame_top.specs.EarlyTexts.{IsValid};
-ghost use Rattle.flame_top.specs.Due.{DueProduct, DueRun, DueFamilies, DueShort, DueCommand};
+ghost use Rattle.flame_top.specs.Due.{DueShort, DueCommand};
 ghost use Rattle.flame_top.specs.Answers.{DueFrom};
 ghost use Rattle.flame_top.specs.declared.output.Halt.TheVariants.{Memory};
 
 use crate::command::Command;
-use crate::fault::EarlyFault;
-use crate::job::ProductJob;
-use crate::operation::stated_operation;
-use crate::product::product;
-use crate::reading::{read_early, read_stated};
-use invariant_family::family;
-use matrix_text::write_matrix;
+use crate::report::{Output, fault_output, job_output};
+use job_text::{JobFault, Stop, read_job};
 use outside_io::{ReadEnd, Source, read_all};
 use std::alloc::{AllocError, Global};
-use text_scan::Name;
-use variant_report::write_family;
 
 /// An input may have so many bytes.
 const LIMIT: u32 = 67_108_864;
-
-/// A status and the whole text that goes with it.
-#[derive(Debug, Drop)]
-pub struct Output {
-    pub status: u8,
-    pub text: Vec<u8>,
-}
 
 /// Why no output was composed.
 #[derive(Clone, Copy, Debug, PartialEq, Eq)]
@@ -49,62 +33,24 @@ impl From<AllocError> for Halt {
     }
 }
 
-fn refused(alloc: Global, text: &[u8]) -> Result<Output, AllocError>
-    ensures { IfOk result (λ output. (output.status ≡ 3) × (output.text.items ≡ text.now)) }
+/// The refusal of an input that is too long.
+fn too_long(alloc: Global) -> Result<Output, AllocError>
+    ensures { IfOk result (λ output. (output.status ≡ 3) × (output.text.items ≡ codes "refused TooLong\n")) }
 {
     Ok(Output {
         status: 3,
-        text: Vec::from_slice(alloc, text)?,
+        text: Vec::from_slice(alloc, b"refused TooLong\n")?,
     })
 }
 
-fn product_output(alloc: Global, job: ProductJob) -> Result<Output, AllocError>
-    requires { IsValid job }
-    ensures { IfOk result (λ output. DueProduct job output.status output.text.items) }
-{
-    let matrix = product(alloc, job)?;
-    let name = Name::from_vec(Vec::from_slice(alloc, b"W")?);
-    let mut text = Vec::new(alloc);
-    write_matrix(alloc, &name, &matrix, &mut text)?;
-    Ok(Output { status: 0, text })
-}
-
-fn run_output(alloc: Global, bytes: &[u8]) -> Result<Output, AllocError>
-    ensures { IfOk result (λ output. DueRun bytes.now output.status output.text.items) }
-{
-    match read_early(alloc, bytes) {
-        Ok(job) => Ok(product_output(alloc, job)?),
-        Err(EarlyFault::Memory) => Err(AllocError),
-        Err(EarlyFault::NotBuilt) => Ok(refused(alloc, b"refused NotBuilt\n")?),
-    }
-}
-
-fn family_output(alloc: Global) -> Result<Output, AllocError>
-    ensures { IfOk result (λ output. (output.status ≡ 0) × (output.text.items ≡ family_text early_operation (single_family_of early_operation))) }
-{
-    let op = stated_operation(alloc)?;
-    let variants = family(alloc, &op)?;
-    let mut text = Vec::new(alloc);
-    write_family(alloc, &op, &variants, &mut text)?;
-    Ok(Output { status: 0, text })
-}
-
-fn families_output(alloc: Global, bytes: &[u8]) -> Result<Output, AllocError>
-    ensures { IfOk result (λ output. DueFamilies bytes.now output.status output.text.items) }
-{
-    match read_stated(alloc, bytes) {
-        Ok(_) => Ok(family_output(alloc)?),
-        Err(EarlyFault::Memory) => Err(AllocError),
-        Err(EarlyFault::NotBuilt) => Ok(refused(alloc, b"refused NotBuilt\n")?),
-    }
-}
-
 fn short_output(alloc: Global, command: Command, bytes: &[u8]) -> Result<Output, AllocError>
+    requires { length bytes.now ≤ 67108864 }
     ensures { IfOk result (λ output. DueShort command bytes.now output.status output.text.items) }
 {
-    match command {
-        Command::Derive => Ok(families_output(alloc, bytes)?),
-        Command::Run { words: _ } => Ok(run_output(alloc, bytes)?),
+    match read_job(alloc, bytes, Stop::Nothing) {
+        Ok((job, _)) => Ok(job_output(alloc, command, &job)?),
+        Err(JobFault::Memory) => Err(AllocError),
+        Err(fault) => Ok(fault_output(alloc, fault)?),
     }
 }
 
@@ -122,7 +68,7 @@ pub fn command_output<S: Source>(
 {
     match read_all(alloc, source, LIMIT) {
         Ok(bytes) => Ok(short_output(alloc, command, &bytes)?),
-        Err(ReadEnd::TooLong) => Ok(refused(alloc, b"refused TooLong\n")?),
+        Err(ReadEnd::TooLong) => Ok(too_long(alloc)?),
         Err(ReadEnd::ReadFault) => Err(Halt::ReadFault),
         Err(ReadEnd::Memory) => Err(Halt::Memory),
     }

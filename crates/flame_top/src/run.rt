@@ -40,12 +40,13 @@ fn answer_command<S: Source, K: Sink>(
     }
 }
 
-/// Runs the job of the input with one worker: reads the source to its end, computes, and writes the
-/// printed matrix. It answers the status.
+/// Runs the job of the input with one worker: reads the source to its end, does the statements one after another, and
+/// writes the matrices that the job prints. It answers the status.
 ///
-/// - 0 comes with the text of the matrix.
-/// - 3 comes with `refused TooLong` where the input has more than 67,108,864 bytes, and with
-///   `refused NotBuilt` where it is no text of a job that can be run so far.
+/// - 0 comes with the text of those matrices, in the order of the prints.
+/// - 3 comes with `refused TooLong` where the input has more than 67,108,864 bytes, with `refused KIND line L` where it
+///   is no text of a job, and with `refused NotBuilt statement S` where S is the first statement whose operation isn't
+///   of the form `X = R`.
 /// - 1 comes only where the source failed, and 5 where memory ran out; nothing is written.
 /// - 6 comes only where the sink failed, behind a front of the text that is due.
 pub fn run_one_cmd<S: Source, K: Sink>(
@@ -64,9 +65,9 @@ pub fn run_one_cmd<S: Source, K: Sink>(
     answer_command(alloc, *command, source, sink)
 }
 
-/// Prints the family of loop invariants of the operation that the input states: reads the source to its
-/// end, derives, and writes one line for each variant. It answers the status, whose causes are those of
-/// `run_one_cmd`; `refused NotBuilt` comes where the input states no operation that can be derived so far.
+/// Prints the family of loop invariants of each operation of the job: reads the source to its end, derives, and writes
+/// one line for each variant. It answers the status, whose causes are those of `run_one_cmd`, but that 3 comes with
+/// `refused NotBuilt operation NAME` where NAME is the first operation that isn't `X = R` of general operands.
 pub fn derive_cmd<S: Source, K: Sink>(
     alloc: Global,
     command: &Command,

@@ -7,14 +7,34 @@ const RUN: &[&str] = &["run", "--block", "1", "--workers", "1"];
 
 const HEAD: &str = "flame 1\nmodulus 7\n";
 
-const OPERATION: &str =
+const MUL: &str =
     "operation mul\ndims m n k\nwork W general m n\nknown A general m k\nknown B general k n\nequation X = W + A * B\nend\n";
+
+const SQR: &str =
+    "operation sqr\ndims n k\nwork W lower n n\nknown A general n k\nequation X = W + A * A'\nend\n";
+
+const LU: &str = "operation lu\ndims n\nwork W general n n\nequation lu X = W\nend\n";
 
 const SMALL: &str = "matrix W 1 1\n1\nend\nmatrix A 1 1\n2\nend\nmatrix B 1 1\n3\nend\n";
 
 const TAIL: &str = "do mul W A B\nprint W\n";
 
-const REFUSED: &str = "refused NotBuilt\n";
+/// A text whose last statement binds its work matrix to known operands too, line by line.
+const BASE: [&str; 13] = [
+    "flame 1",
+    "modulus 7",
+    "operation mul",
+    "dims m n k",
+    "work W general m n",
+    "known A general m k",
+    "known B general k n",
+    "equation X = W + A * B",
+    "end",
+    "matrix P 1 1",
+    "3",
+    "end",
+    "do mul P P P",
+];
 
 /// What a run answers.
 #[derive(Drop)]
@@ -39,6 +59,19 @@ fn joined(alloc: Global, parts: &[&str]) -> Result<Vec<u8>, AllocError> {
     Ok(all)
 }
 
+/// The first lines of the base text, so many of them, with one line, numbered from 1, replaced.
+fn changed(alloc: Global, count: usize, number: usize, line: &str) -> Result<Vec<u8>, AllocError> {
+    let mut all = Vec::new(alloc);
+    for (i, due) in BASE.iter().enumerate() {
+        if i < count {
+            let text = if i + 1 == number { line } else { *due };
+            all.extend_from_slice(text.as_bytes())?;
+            all.push(b'\n')?;
+        }
+    }
+    Ok(all)
+}
+
 /// The answer from a source that gives 16 bytes a call to a sink that takes 8, with planned failures.
 fn answered(
     alloc: Global,
@@ -55,40 +88,70 @@ fn answered(
     Ok(Answer { status, text })
 }
 
+/// Jobs, each a text in parts, and what a run of it prints.
+const JOBS: [(&[&str], &str); 8] = [
+    (&[HEAD, MUL, SMALL, TAIL], "matrix W 1 1\n0\nend\n"),
+    (
+        &[
+            HEAD,
+            MUL,
+            "matrix W 2 2\n1 2\n3 4\nend\nmatrix A 2 0\nend\nmatrix B 0 2\nend\n",
+            TAIL,
+        ],
+        "matrix W 2 2\n1 2\n3 4\nend\n",
+    ),
+    (
+        &[
+            "flame 1\nmodulus 4294967291\n",
+            MUL,
+            "matrix W 1 2\n5 0\nend\nmatrix A 1 2\n4294967290 2\nend\nmatrix B 2 2\n4294967290 3\n1 1\nend\n",
+            TAIL,
+        ],
+        "matrix W 1 2\n8 4294967290\nend\n",
+    ),
+    // A primed factor, and a work matrix of which the lower part alone changes.
+    (
+        &[
+            HEAD,
+            SQR,
+            "matrix W 2 2\n1 5\n2 3\nend\nmatrix A 2 1\n1\n2\nend\ndo sqr W A\nprint W\n",
+        ],
+        "matrix W 2 2\n2 5\n4 0\nend\n",
+    ),
+    // The second statement reads a matrix and changes it by what the first left beside it.
+    (
+        &[
+            "flame 1\nmodulus 101\n",
+            MUL,
+            "matrix A 2 2\n1 2\n3 4\nend\nmatrix B 2 2\n1 0\n0 1\nend\nmatrix C 2 2\n0 0\n0 0\nend\nmatrix D 2 1\n1\n1\nend\nmatrix E 1 2\n1 1\nend\ndo mul C A B\ndo mul A D E\nprint C\nprint A\n",
+        ],
+        "matrix C 2 2\n1 2\n3 4\nend\nmatrix A 2 2\n2 3\n4 5\nend\n",
+    ),
+    // What one statement leaves is what the next one reads.
+    (
+        &[
+            HEAD,
+            MUL,
+            "matrix P 1 1\n1\nend\nmatrix Q 1 1\n2\nend\nmatrix R 1 1\n3\nend\ndo mul P Q R\ndo mul Q P R\nprint R\nprint Q\nprint P\n",
+        ],
+        "matrix R 1 1\n3\nend\nmatrix Q 1 1\n2\nend\nmatrix P 1 1\n0\nend\n",
+    ),
+    // Two terms, an upper work matrix, a symmetric and a unit lower factor; comments and free blanks.
+    (
+        &[
+            "# a job\nflame 1 # version\n\tmodulus\t11\r\n\noperation two\ndims n\nwork W upper n n\nknown S symmetric n n\nknown L unitlower n n\n",
+            "equation X=W-S*L'+L*S\nend\nmatrix W 2 2\n1 2\n9 4\nend\nmatrix S 2 2\n5 8\n3 6\nend\nmatrix L 2 2\n7 7\n2 7\nend\n\n do two W S L # bound in declared order\nprint W",
+        ],
+        "matrix W 2 2\n1 3\n9 4\nend\n",
+    ),
+    // Nothing to do and nothing to print.
+    (&[HEAD, SMALL], ""),
+];
+
 #[test]
-fn texts_are_answered(rt: HostRuntime) -> Result<(), Fail> {
+fn jobs_are_run(rt: HostRuntime) -> Result<(), Fail> {
     let alloc = rt.alloc();
-    let cases: [(&[&str], &str); 4] = [
-        (&[HEAD, OPERATION, SMALL, TAIL], "matrix W 1 1\n0\nend\n"),
-        (
-            &[
-                HEAD,
-                OPERATION,
-                "matrix W 2 2\n1 2\n3 4\nend\nmatrix A 2 0\nend\nmatrix B 0 2\nend\n",
-                TAIL,
-            ],
-            "matrix W 2 2\n1 2\n3 4\nend\n",
-        ),
-        (
-            &[
-                "flame 1\nmodulus 4294967291\n",
-                OPERATION,
-                "matrix W 1 2\n5 0\nend\nmatrix A 1 2\n4294967290 2\nend\nmatrix B 2 2\n4294967290 3\n1 1\nend\n",
-                TAIL,
-            ],
-            "matrix W 1 2\n8 4294967290\nend\n",
-        ),
-        (
-            &[
-                HEAD,
-                OPERATION,
-                "matrix W 0 3\nend\nmatrix A 0 1\nend\nmatrix B 1 3\n1 2 3\nend\n",
-                TAIL,
-            ],
-            "matrix W 0 3\nend\n",
-        ),
-    ];
-    for (i, (parts, text)) in cases.iter().enumerate() {
+    for (i, (parts, text)) in JOBS.iter().enumerate() {
         let given = answered(alloc, RUN, joined(alloc, parts)?, &[], &[])?;
         assert_eq!(rt; given.status, 0, "case {i}");
         assert_eq!(rt; given.text.as_slice(), text.as_bytes(), "case {i}");
@@ -96,53 +159,121 @@ fn texts_are_answered(rt: HostRuntime) -> Result<(), Fail> {
     Ok(())
 }
 
+/// So many first lines of the base text, with one line replaced, and the refusal.
+const REFUSED: [(usize, usize, &str, &str); 24] = [
+    (13, 0, "", "refused Alias line 13\n"),
+    (13, 11, "7", "refused EntryRange line 11\n"),
+    (13, 11, "03", "refused Syntax line 11\n"),
+    (
+        13,
+        8,
+        "equation X = W + A * B + A * B + A * B",
+        "refused TooManyTerms line 8\n",
+    ),
+    (
+        13,
+        8,
+        "equation X = W + A * C",
+        "refused NameUnknown line 8\n",
+    ),
+    (13, 8, "equation X = W + B * A", "refused Shape line 8\n"),
+    (13, 8, "equation X = W", "refused Form line 8\n"),
+    (13, 13, "do mul P P", "refused Binding line 13\n"),
+    (13, 13, "modulus 7", "refused TrailingText line 13\n"),
+    (13, 10, "matrix P 1 1025", "refused TooLarge line 10\n"),
+    (13, 4, "dims m n @ k", "refused BadByte line 4\n"),
+    (0, 0, "", "refused Header line 1\n"),
+    (8, 0, "", "refused Syntax line 9\n"),
+    // Two faults each: the earlier line, and on one line the earlier kind, decides.
+    (13, 12, "end @", "refused BadByte line 12\n"),
+    (13, 2, "modulus 1", "refused Modulus line 2\n"),
+    (13, 1, "flame 2", "refused Header line 1\n"),
+    (13, 9, "end end", "refused Syntax line 9\n"),
+    (13, 7, "known A lower k n", "refused NameTwice line 7\n"),
+    (13, 6, "known X general m j", "refused NameTwice line 6\n"),
+    (13, 4, "dims a b c d e f m m", "refused Limit line 4\n"),
+    (13, 11, "7 8", "refused RowLength line 11\n"),
+    (13, 11, "end", "refused RowLength line 11\n"),
+    (13, 13, "do mul P P Q Q", "refused NameUnknown line 13\n"),
+    (13, 13, "print Q P", "refused Syntax line 13\n"),
+];
+
 #[test]
-fn other_texts_are_refused(rt: HostRuntime) -> Result<(), Fail> {
+fn texts_are_refused(rt: HostRuntime) -> Result<(), Fail> {
     let alloc = rt.alloc();
-    let cases: [&[&str]; 13] = [
-        &["flame 1\nmodulus 1\n", OPERATION, SMALL, TAIL],
-        &["flame 1\nmodulus 07\n", OPERATION, SMALL, TAIL],
-        &["flame 1\nmodulus 4294967296\n", OPERATION, SMALL, TAIL],
-        &[],
-        &[HEAD, OPERATION, SMALL, "do mul W A B\nprint W"],
-        &[HEAD, OPERATION, SMALL, TAIL, "\n"],
-        &[HEAD, OPERATION, SMALL],
-        &[HEAD, SMALL, TAIL],
-        &[" ", HEAD, OPERATION, SMALL, TAIL],
-        &[
-            HEAD,
-            OPERATION,
-            "matrix W 1 1\n7\nend\nmatrix A 1 1\n2\nend\nmatrix B 1 1\n3\nend\n",
-            TAIL,
-        ],
-        &[
-            HEAD,
-            OPERATION,
-            "matrix W 1 1\n01\nend\nmatrix A 1 1\n2\nend\nmatrix B 1 1\n3\nend\n",
-            TAIL,
-        ],
-        &[
-            HEAD,
-            OPERATION,
-            "matrix W 1 1\n1\nend\nmatrix A 1 2\n2 2\nend\nmatrix B 1 1\n3\nend\n",
-            TAIL,
-        ],
-        &[
-            HEAD,
-            OPERATION,
-            "matrix W 1025 0\nend\nmatrix A 1025 0\nend\nmatrix B 0 0\nend\n",
-            TAIL,
-        ],
+    for (i, (count, number, line, text)) in REFUSED.iter().enumerate() {
+        let given = answered(alloc, RUN, changed(alloc, *count, *number, line)?, &[], &[])?;
+        assert_eq!(rt; given.status, 3, "case {i}");
+        assert_eq!(rt; given.text.as_slice(), text.as_bytes(), "case {i}");
+    }
+    let cut: [(&[&str], &str); 2] = [
+        (
+            &[HEAD, MUL, "matrix P 1 2\n3\n"],
+            "refused RowLength line 11\n",
+        ),
+        (&["flame 1\nmodulus 1"], "refused Modulus line 2\n"),
     ];
-    for (i, parts) in cases.iter().enumerate() {
+    for (i, (parts, text)) in cut.iter().enumerate() {
         let given = answered(alloc, RUN, joined(alloc, parts)?, &[], &[])?;
         assert_eq!(rt; given.status, 3, "case {i}");
-        assert_eq!(rt; given.text.as_slice(), REFUSED.as_bytes(), "case {i}");
+        assert_eq!(rt; given.text.as_slice(), text.as_bytes(), "case {i}");
     }
+    Ok(())
+}
+
+#[test]
+fn long_inputs_are_refused(rt: HostRuntime) -> Result<(), Fail> {
+    let alloc = rt.alloc();
     let blanks = vec![in alloc; b' '; 67_108_865]?;
     let given = answered(alloc, RUN, blanks, &[], &[])?;
     assert_eq!(rt; given.status, 3);
     assert_eq!(rt; given.text.as_slice(), b"refused TooLong\n".as_slice());
+    let blanks = vec![in alloc; b' '; 67_108_864]?;
+    let given = answered(alloc, RUN, blanks, &[], &[])?;
+    assert_eq!(rt; given.status, 3);
+    assert_eq!(rt;
+        given.text.as_slice(),
+        b"refused Header line 1\n".as_slice()
+    );
+    Ok(())
+}
+
+#[test]
+fn what_is_not_built_is_refused(rt: HostRuntime) -> Result<(), Fail> {
+    let alloc = rt.alloc();
+    let cases: [(&[&str], &[&str], &str); 5] = [
+        (
+            RUN,
+            &[HEAD, MUL, LU, SMALL, "do mul W A B\ndo lu W\ndo lu A\n"],
+            "refused NotBuilt statement 2\n",
+        ),
+        // A fault of the text comes first, wherever it stands.
+        (
+            RUN,
+            &[HEAD, LU, SMALL, "do lu W\nprint C\n"],
+            "refused NameUnknown line 18\n",
+        ),
+        (
+            &["derive"],
+            &[HEAD, MUL, SQR, LU],
+            "refused NotBuilt operation sqr\n",
+        ),
+        (
+            &["derive"],
+            &[HEAD, MUL, LU, SQR],
+            "refused NotBuilt operation lu\n",
+        ),
+        (
+            &["derive"],
+            &[HEAD, LU, "operation"],
+            "refused Syntax line 8\n",
+        ),
+    ];
+    for (i, (words, parts, text)) in cases.iter().enumerate() {
+        let given = answered(alloc, words, joined(alloc, parts)?, &[], &[])?;
+        assert_eq!(rt; given.status, 3, "case {i}");
+        assert_eq!(rt; given.text.as_slice(), text.as_bytes(), "case {i}");
+    }
     Ok(())
 }
 
@@ -173,7 +304,7 @@ fn faults_and_bad_words_are_told(rt: HostRuntime) -> Result<(), Fail> {
         (&[], &[4], 6, "matrix W 1 1\n0\nend\n"),
     ];
     for (i, (source_fails, sink_fails, status, text)) in faults.iter().enumerate() {
-        let input = joined(alloc, &[HEAD, OPERATION, SMALL, TAIL])?;
+        let input = joined(alloc, &[HEAD, MUL, SMALL, TAIL])?;
         let given = answered(alloc, RUN, input, source_fails, sink_fails)?;
         assert_eq!(rt; given.status, *status, "case {i}");
         assert_eq!(rt; given.text.as_slice(), text.as_bytes(), "case {i}");
@@ -181,25 +312,24 @@ fn faults_and_bad_words_are_told(rt: HostRuntime) -> Result<(), Fail> {
     Ok(())
 }
 
+/// The families of the product along single dimensions.
 const FAMILY: &str =
     "operation mul\nvariants 6\n1 split m forward : term1(0,0,0)\n2 split m backward : term1(1,0,0)\n3 split n forward : term1(0,0,0)\n4 split n backward : term1(0,1,0)\n5 split k forward : term1(0,0,0)\n6 split k backward : term1(0,0,1)\n";
 
 #[test]
 fn families_are_printed(rt: HostRuntime) -> Result<(), Fail> {
     let alloc = rt.alloc();
-    let cases: [(&[&str], u8, &str); 7] = [
-        (&[HEAD, OPERATION], 0, FAMILY),
-        (&["flame 1\nmodulus 4294967295\n", OPERATION], 0, FAMILY),
-        (&[HEAD, OPERATION, SMALL, TAIL], 0, FAMILY),
-        (&[], 3, REFUSED),
-        (&["flame 1\nmodulus 1\n", OPERATION], 3, REFUSED),
-        (&[HEAD, OPERATION, "\n"], 3, REFUSED),
-        (&[HEAD, OPERATION, SMALL], 3, REFUSED),
+    let cases: [(&[&str], &[&str]); 4] = [
+        (&[HEAD, MUL], &[FAMILY]),
+        (&["flame 1\nmodulus 4294967295\n", MUL], &[FAMILY]),
+        (&[HEAD, MUL, SMALL, TAIL], &[FAMILY]),
+        (&[HEAD], &[]),
     ];
-    for (i, (parts, status, text)) in cases.iter().enumerate() {
+    for (i, (parts, texts)) in cases.iter().enumerate() {
         let given = answered(alloc, &["derive"], joined(alloc, parts)?, &[], &[])?;
-        assert_eq!(rt; given.status, *status, "case {i}");
-        assert_eq!(rt; given.text.as_slice(), text.as_bytes(), "case {i}");
+        let text = joined(alloc, texts)?;
+        assert_eq!(rt; given.status, 0, "case {i}");
+        assert_eq!(rt; given.text.as_slice(), text.as_slice(), "case {i}");
     }
     Ok(())
 }

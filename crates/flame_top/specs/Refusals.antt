@@ -1,0 +1,35 @@
+-- What is printed of a refused input.
+use Rattle.std.specs.Prelude.{ℕ, List, [], ◌++◌, codes, decimal}
+use Rattle.job_text.specs.declared.fault.JobFault.{JobFault}
+use Rattle.job_text.specs.declared.fault.JobFault.TheVariants.{Memory, BadByte, Header, TrailingText, Syntax, Modulus, Limit, NameTwice, NameUnknown, TooManyTerms, Shape, Form, TooLarge, RowLength, EntryRange, Binding, Alias}
+use Rattle.flame_top.specs.declared.fault.StageFault.{StageFault}
+use Rattle.flame_top.specs.declared.fault.StageFault.TheVariants.{Statement, Operation}
+
+-- the kind of a fault and its line
+abbrev pub kind_at : List ℕ → ℕ → List ℕ
+kind_at kind line = codes "refused " ++ kind ++ codes " line " ++ decimal line ++ codes "\n"
+
+-- a fault of the job's text; want of memory is none, and nothing is printed of it
+abbrev pub refusal_text : JobFault → List ℕ
+refusal_text Memory = []
+refusal_text (BadByte line) = kind_at (codes "BadByte") line
+refusal_text (Header line) = kind_at (codes "Header") line
+refusal_text (TrailingText line) = kind_at (codes "TrailingText") line
+refusal_text (Syntax line) = kind_at (codes "Syntax") line
+refusal_text (Modulus line) = kind_at (codes "Modulus") line
+refusal_text (Limit line) = kind_at (codes "Limit") line
+refusal_text (NameTwice line) = kind_at (codes "NameTwice") line
+refusal_text (NameUnknown line) = kind_at (codes "NameUnknown") line
+refusal_text (TooManyTerms line) = kind_at (codes "TooManyTerms") line
+refusal_text (Shape line) = kind_at (codes "Shape") line
+refusal_text (Form line) = kind_at (codes "Form") line
+refusal_text (TooLarge line) = kind_at (codes "TooLarge") line
+refusal_text (RowLength line) = kind_at (codes "RowLength") line
+refusal_text (EntryRange line) = kind_at (codes "EntryRange") line
+refusal_text (Binding line) = kind_at (codes "Binding") line
+refusal_text (Alias line) = kind_at (codes "Alias") line
+
+-- what isn't built so far: a statement by its number, an operation by its name
+abbrev pub stage_text : StageFault → List ℕ
+stage_text (Statement number) = codes "refused NotBuilt statement " ++ decimal number ++ codes "\n"
+stage_text (Operation name) = codes "refused NotBuilt operation " ++ name ++ codes "\n"
