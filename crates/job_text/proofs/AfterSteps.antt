@@ -1,47 +1,18 @@
 -- Steps of reading the blocks of matrices as they stand after statements. Cited by their reader.
-use Rattle.std.proofs.Common.{◌≡◌, ◌≢◌, ℕ, ◌+◌, ◌<◌, ◌≤◌, false, ◌&&◌, List, [], ◌∷◌, ◌++◌, length, drop, map, get_or, slice_index_or, Option, Result, Ok, Err, IsTrue, refl, sym, ap, subst, ◌∙◌, arith, inl, inr}
-use Rattle.std.specs.Prelude.{codes}
-use Rattle.std.specs.Str.{bytes_eq}
-use Rattle.std.proofs.lemmas.Bool.{and_parts, cases_lt}
-use Rattle.std.proofs.lemmas.List.{length-map, at_drop_all, at_drop_more, get_or_default}
+use Rattle.std.proofs.Common.{◌≡◌, ◌≢◌, ℕ, ◌+◌, ◌<◌, ◌≤◌, List, [], ◌∷◌, ◌++◌, length, drop, get_or, Option, Result, Ok, Err, refl, sym, ap, subst, ◌∙◌, arith, inl, inr}
+use Rattle.std.proofs.lemmas.Bool.{cases_lt}
+use Rattle.std.proofs.lemmas.List.{at_drop_all, at_drop_more, get_or_default}
 use Rattle.residue_sums.specs.Grids.{Grid}
 use Rattle.byte_texts.specs.Reading.{◌>>=◌, EndsWith}
 use Rattle.text_scan.specs.Lines.{Line}
-use Rattle.text_scan.specs.Words.{is_name, is_number}
 use Rattle.equation.specs.declared.job.Job.{Job}
 use Rattle.equation.specs.declared.job.Statement.{Statement}
 use Rattle.job_text.specs.declared.fault.JobFault.{JobFault}
 use Rattle.job_text.specs.declared.fault.JobFault.TheVariants.{Syntax}
 use Rattle.job_text.specs.AfterBlocks.{HasShortSizes, work_grid, work_name}
-use Rattle.job_text.specs.AfterFaults.{after_at, block_at, blocks_at, is_after_line}
+use Rattle.job_text.specs.AfterFaults.{after_at, block_at, blocks_at}
 use Rattle.job_text.specs.JobFaults.{nothing_at}
 use Rattle.job_text.proofs.FirstSteps.{ends_along, ends_first}
-
--- ---- the first line of a block
-
--- it has four words
-four_words : (words : List (List ℕ)) → length words ≢ 4 → false ≡ is_after_line words
-four_words [] other = refl
-four_words (a ∷ []) other = refl
-four_words (a ∷ b ∷ []) other = refl
-four_words (a ∷ b ∷ c ∷ []) other = refl
-four_words (a ∷ b ∷ c ∷ d ∷ []) other = absurd (other refl)
-four_words (a ∷ b ∷ c ∷ d ∷ e ∷ words) other = refl
-
-pub no_after_line : {X : Type 0} (text : X → List ℕ) (xs : List X) → length xs ≢ 4 → false ≡ is_after_line (map text xs)
-no_after_line text xs other = four_words (map text xs) (λ four. other (sym (length-map xs text) ∙ four))
-
--- its last two words are numbers
-pub after_numbers : {X : Type 0} (text : X → List ℕ) (xs : List X) → IsTrue (is_after_line (map text xs)) → (d : X) → IsTrue (is_number (text (slice_index_or xs 2 d))) × IsTrue (is_number (text (slice_index_or xs 3 d)))
-after_numbers text [] is = absurd cc
-after_numbers text (a ∷ []) is = absurd cc
-after_numbers text (a ∷ b ∷ []) is = absurd cc
-after_numbers text (a ∷ b ∷ c ∷ []) is = absurd cc
-after_numbers text (a ∷ b ∷ c ∷ d ∷ []) is =
-    let last = and_parts (bytes_eq (text a) (codes "after") && is_name (text b) && is_number (text c)) (is_number (text d)) is in
-    let third = and_parts (bytes_eq (text a) (codes "after") && is_name (text b)) (is_number (text c)) last.0 in
-    λ x. (third.1, last.1)
-after_numbers text (a ∷ b ∷ c ∷ d ∷ e ∷ xs) is = absurd cc
 
 -- ---- no bytes are left
 

@@ -1,5 +1,5 @@
 -- Steps from line to line. Cited by the readers of sections.
-use Rattle.std.proofs.Common.{◌≡◌, true, ℕ, ◌-◌, ◌<◌, ◌≤◌, List, [], ◌∷◌, ◌++◌, length, map, drop, Option, Some, None, IfSome, Result, refl, ap, ◌∙◌, length-append, arith}
+use Rattle.std.proofs.Common.{◌≡◌, ℕ, ◌-◌, ◌≤◌, List, ◌++◌, length, drop, Option, Some, None, IfSome, Result, refl, ap, ◌∙◌, length-append, arith}
 use Rattle.byte_texts.specs.Reading.{◌>>=◌, EndsWith}
 use Rattle.text_scan.specs.declared.lines.TokenLine.{TokenLine}
 use Rattle.text_scan.specs.declared.token.Token.{Token}
@@ -8,7 +8,6 @@ use Rattle.text_scan.specs.declared.token.ScanFault.TheVariants as scan_faults
 use Rattle.text_scan.specs.Ends.{HasEnd}
 use Rattle.text_scan.specs.Tokens.{text_fault as scan_text_fault}
 use Rattle.text_scan.specs.Scanned.{AreTokens}
-use Rattle.text_scan.specs.Words.{word}
 use Rattle.text_scan.proofs.TokenEnds.{end_place}
 use Rattle.operation_spec.specs.declared.fault.SpecFault.{SpecFault}
 use Rattle.operation_spec.specs.declared.fault.SpecFault.TheVariants as spec_faults
@@ -17,7 +16,7 @@ use Rattle.operation_spec.specs.TokenLines.{IsLineOf}
 use Rattle.operation_spec.proofs.KnownLines.{line_parts}
 use Rattle.matrix_text.specs.declared.fault.MatrixFault.{MatrixFault}
 use Rattle.matrix_text.specs.declared.fault.MatrixFault.TheVariants as matrix_faults
-use Rattle.matrix_text.specs.MatrixFaults.{is_heading, text_fault as matrix_text_fault}
+use Rattle.matrix_text.specs.MatrixFaults.{text_fault as matrix_text_fault}
 use Rattle.job_text.specs.declared.fault.JobFault.{JobFault}
 use Rattle.job_text.specs.JobFaults.{fault_of_matrix, fault_of_spec, or_else, fault_of_scan}
 use Rattle.job_text.specs.Sections.{text_fault}
@@ -26,12 +25,6 @@ use Rattle.job_text.specs.Sections.{text_fault}
 pub parts_of : (bytes : List ℕ) (tokens : List Token) (found : Option TokenLine) → AreTokens 1 bytes tokens → IfSome found (λ line. tokens ≡ line.tokens.now ++ line.rest.now) → IfSome found (λ line. IsLineOf bytes tokens line)
 parts_of bytes tokens None are split = tt
 parts_of bytes tokens (Some line) are split = line_parts bytes tokens line are split
-
--- the first line of a matrix has its name
-pub heading_has_name : (bytes : List ℕ) (tokens : List Token) → is_heading (map (word bytes) tokens) ≡ true → 1 < length tokens
-heading_has_name bytes [] is = absurd cc
-heading_has_name bytes (t ∷ []) is = absurd cc
-heading_has_name bytes (t ∷ u ∷ tokens) is = omega arith
 
 -- ---- faults of blocks are faults of the job
 

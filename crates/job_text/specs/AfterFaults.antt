@@ -1,6 +1,6 @@
 -- The faults of the second part of an input that has a block for each statement of a job: for each line the tests in their
 -- order. Where no line has a fault, the lines say matrices.
-use Rattle.std.specs.Prelude.{ℕ, List, [], ◌∷◌, ◌++◌, codes, drop, Result, Ok, Bool, false, ◌&&◌, ◌||◌, not, ◌==◌}
+use Rattle.std.specs.Prelude.{ℕ, List, [], ◌∷◌, ◌++◌, codes, drop, Result, Ok, Bool, ◌&&◌, ◌||◌, not, ◌==◌}
 use Rattle.std.specs.Str.{bytes_eq}
 use Rattle.residue_sums.specs.Grids.{Grid}
 use Rattle.byte_texts.specs.Reading.{◌>>=◌}
@@ -10,9 +10,9 @@ use Rattle.text_scan.specs.declared.token.Token.{Token}
 use Rattle.text_scan.specs.Faults.{first_fault}
 use Rattle.text_scan.specs.Lines.{Line, end_line_of, lines_of}
 use Rattle.text_scan.specs.Tokens.{tokens_of}
-use Rattle.text_scan.specs.Words.{is_name, is_number, number_value}
+use Rattle.text_scan.specs.Words.{number_value}
 use Rattle.operation_spec.specs.OperationFaults.{nth_word}
-use Rattle.matrix_text.specs.MatrixFaults.{grid_at}
+use Rattle.matrix_text.specs.MatrixFaults.{grid_at, is_sized_line}
 use Rattle.equation.specs.declared.job.Job.{Job}
 use Rattle.equation.specs.declared.job.Statement.{Statement}
 use Rattle.job_text.specs.declared.fault.JobFault.{JobFault}
@@ -24,8 +24,7 @@ use Rattle.job_text.specs.Sections.{due_at}
 -- ---- `after NAME ROWS COLS`
 
 abbrev pub is_after_line : List (List ℕ) → Bool
-is_after_line (first ∷ name ∷ rows ∷ cols ∷ []) = bytes_eq first (codes "after") && is_name name && is_number rows && is_number cols
-is_after_line _ = false
+is_after_line words = is_sized_line (codes "after") words
 
 -- it has the name, and as many rows and columns as the matrix
 abbrev pub is_block_of : List ℕ → Grid → List (List ℕ) → Bool

@@ -23,28 +23,11 @@ use crate::reading::nothing_behind;
 use equation::{Job, Statement};
 use field_word::Modulus;
 use matrix_core::{Matrix, MatrixList};
-use matrix_text::read_rows;
+use matrix_text::{is_sized_line, read_rows};
 use std::alloc::Global;
 use text_scan::{Name, Rest, Token, end_line, number, scan};
 
 // ---- the first line of a block
-
-/// Whether the line is `after NAME ROWS COLS`.
-fn is_after_line(bytes: &[u8], tokens: &[Token]) -> bool
-    requires { HaveWords bytes.now tokens.now }
-    ensures value { result ≡ is_after_line (words_of bytes.now tokens.now) }
-    ensures four { IsTrue result → length tokens.now ≡ 4 }
-{
-    match tokens {
-        [first, name, rows, cols] => {
-            first.is_text(bytes, b"after")
-                && name.is_name(bytes)
-                && rows.is_number(bytes)
-                && cols.is_number(bytes)
-        }
-        _ => false,
-    }
-}
 
 /// Whether the number that a token is, is this one.
 fn is_value(bytes: &[u8], token: Token, n: u32) -> bool
@@ -84,7 +67,7 @@ fn after_head(
     requires { HaveWords bytes.now tokens.now }
     ensures { Gives text_fault (λ _. tt) result (after_head_at end name.now work.now (line_at number bytes.now tokens.now)) }
 {
-    if number == end || !is_after_line(bytes, tokens) {
+    if number == end || !is_sized_line(bytes, b"after", tokens) {
         return Err(JobFault::Syntax { line: number });
     }
     if !is_block_of(bytes, tokens, name, work) {

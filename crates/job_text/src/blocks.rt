@@ -153,7 +153,7 @@ pub struct NamedMatrices {
 }
 
 /// Tests the first line of a block against the matrices above it.
-#[tactic(auto, unfolding(crate::specs::JobFaults::matrix_head_at), using(crate::proofs::FirstSteps::heading_has_name))]
+#[tactic(auto, unfolding(crate::specs::JobFaults::matrix_head_at))]
 fn matrix_head(
     bytes: &[u8],
     end: u32,

@@ -33,9 +33,13 @@ pub record Heading : Type 0 where
   pub rows : ℕ
   pub cols : ℕ
 
+-- `WORD NAME ROWS COLS`, the first line of a matrix that stands under this word
+abbrev pub is_sized_line : List ℕ → List (List ℕ) → Bool
+is_sized_line w (first ∷ name ∷ rows ∷ cols ∷ []) = bytes_eq first w && is_name name && is_number rows && is_number cols
+is_sized_line w _ = false
+
 abbrev pub is_heading : List (List ℕ) → Bool
-is_heading (first ∷ name ∷ rows ∷ cols ∷ []) = bytes_eq first (codes "matrix") && is_name name && is_number rows && is_number cols
-is_heading _ = false
+is_heading words = is_sized_line (codes "matrix") words
 
 abbrev pub heading_of : List (List ℕ) → Heading
 heading_of words = record { name = slice_index_or words 1 []; rows = number_value (slice_index_or words 2 []); cols = number_value (slice_index_or words 3 []) }

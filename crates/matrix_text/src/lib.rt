@@ -14,5 +14,5 @@ mod tests;
 mod writing;
 
 pub use fault::MatrixFault;
-pub use reading::{is_heading, read_matrix, read_rows};
+pub use reading::{is_heading, is_sized_line, read_matrix, read_rows};
 pub use writing::write_matrix;

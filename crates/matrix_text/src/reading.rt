@@ -7,7 +7,7 @@ ghost use Rattle.text_scan.specs.Scanned.{AreTokens};
 ghost use Rattle.text_scan.specs.Tokens.{tokens_of};
 ghost use Rattle.text_scan.specs.Words.{word, is_word, is_number, number_value};
 ghost use Rattle.matrix_text.specs.declared.fault.MatrixFault.TheVariants.{EntryRange};
-ghost use Rattle.matrix_text.specs.MatrixFaults.{text_fault, is_heading, is_too_large, heading_at, is_end, row_at, numbers_behind, with_row, with_entries, next_row_at, rows_at, last_at, grid_at, matrix_at};
+ghost use Rattle.matrix_text.specs.MatrixFaults.{text_fault, is_heading, is_sized_line, is_too_large, heading_at, is_end, row_at, numbers_behind, with_row, with_entries, next_row_at, rows_at, last_at, grid_at, matrix_at};
 ghost use Rattle.matrix_text.specs.MatrixLines.{SpellsMatrix, SpellsRows, size_limit};
 ghost use Rattle.matrix_text.specs.TokenWords.{HaveWords};
 
@@ -35,20 +35,30 @@ struct Shape {
     cols: u32,
 }
 
-/// Whether the tokens are `matrix NAME ROWS COLS`.
-pub fn is_heading(bytes: &[u8], tokens: &[Token]) -> bool
-    requires { AreTokens 1 bytes.now tokens.now }
-    ensures { result ≡ is_heading (map (word bytes.now) tokens.now) }
+/// Whether the tokens are `WORD NAME ROWS COLS`, the first line of a matrix that stands under this word.
+pub fn is_sized_line(bytes: &[u8], first_word: &[u8], tokens: &[Token]) -> bool
+    requires { HaveWords bytes.now tokens.now }
+    ensures value { result ≡ is_sized_line first_word.now (map (word bytes.now) tokens.now) }
+    ensures four { IsTrue result → length tokens.now ≡ 4 }
 {
     match tokens {
         [first, name, rows, cols] => {
-            first.is_text(bytes, b"matrix")
+            first.is_text(bytes, first_word)
                 && name.is_name(bytes)
                 && rows.is_number(bytes)
                 && cols.is_number(bytes)
         }
         _ => false,
     }
+}
+
+/// Whether the tokens are `matrix NAME ROWS COLS`.
+pub fn is_heading(bytes: &[u8], tokens: &[Token]) -> bool
+    requires { AreTokens 1 bytes.now tokens.now }
+    ensures value { result ≡ is_heading (map (word bytes.now) tokens.now) }
+    ensures four { IsTrue result → length tokens.now ≡ 4 }
+{
+    is_sized_line(bytes, b"matrix", tokens)
 }
 
 /// The number of rows or columns that a token is, unless it passes the limit.
