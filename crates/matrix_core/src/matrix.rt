@@ -3,6 +3,8 @@ ghost use Rattle.residue_sums.specs.Grids.{IsFull, entry, with_entry};
 ghost use Rattle.structure_rules.specs.Structures.{view};
 ghost use Rattle.structure_rules.specs.declared.Structure.TheVariants.{General};
 ghost use Rattle.matrix_core.specs.Matrices.{zero_grid, IsIdentity};
+ghost use Rattle.std.specs.Borrow.{sem};
+ghost use Rattle.matrix_core.specs.LentEntries.{LendsEntries};
 
 use std::alloc::{AllocError, Global};
 use std::marker::Model;
@@ -72,6 +74,15 @@ impl Matrix {
         ensures full { IsFull self.now }
     {
         &self.entries
+    }
+
+    /// Lends the entries, row by row, to be written.
+    pub fn entries_mut(&mut self) -> &mut [u64]
+        ensures* writes_back { sem 𝓛 (LendsEntries self.entry result) }
+        ensures entries { result.now ≡ self.old.entries }
+        ensures full { IsFull self.old }
+    {
+        self.entries.as_mut_slice()
     }
 
     /// The entries as a vector, row by row. It takes no memory.
