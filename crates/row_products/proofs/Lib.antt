@@ -1,0 +1,3 @@
+pub mod FilledRows
+pub mod HalfSums
+pub mod Reciprocals
