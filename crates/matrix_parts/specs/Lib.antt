@@ -1,0 +1,5 @@
+pub mod Rects
+pub mod Lent
+pub mod Opers
+pub mod Regions
+pub mod Panels
