@@ -21,7 +21,7 @@ is_zero-zero : (s : Structure) (i j : ℕ) → IsZero s i j → is_zero s i j �
 is_zero-zero s i j h = grind (arith, nat_tests)
 
 -- the left side is the solution
-left_side-assign : (m : ℕ) (op : Operation) (knowns : List Grid) (stored : Grid) → op.form ≡ Assign
+pub left_side-assign : (m : ℕ) (op : Operation) (knowns : List Grid) (stored : Grid) → op.form ≡ Assign
     → (i j : ℕ) → left_side m op knowns stored i j ≡ solution_table op stored i j
 left_side-assign m op knowns stored form i j = rw form refl
 
@@ -29,7 +29,7 @@ left_side-assign m op knowns stored form i j = rw form refl
 abbrev pub assigned : ℕ → Operation → List Grid → Grid → Table
 assigned m op knowns work i j = if is_zero op.work.structure i j then entry work i j else right_side m op knowns work i j
 
-solution_inside : (op : Operation) (x : Grid) (i j : ℕ) → IsInside op.work.structure i j → solution_table op x i j ≡ entry x i j
+pub solution_inside : (op : Operation) (x : Grid) (i j : ℕ) → IsInside op.work.structure i j → solution_table op x i j ≡ entry x i j
 solution_inside op x i j inside = rw (is_zero-inside op.work.structure i j inside) refl
 
 HasEntries-assigned : (m : ℕ) (op : Operation) (knowns : List Grid) (work x : Grid) → op.form ≡ Assign → Satisfies m op knowns work x

@@ -18,28 +18,28 @@ use Rattle.equation.proofs.PivotDecisions.{bad_pivot_or_none}
 use Rattle.equation.proofs.StatementOutcomes.{HasOneSolution, all_come_to_one, all_fail_once, first_is, none_change_and_fail, others_are}
 
 -- what the statements of a job keep: the sizes of its matrices, and residues
-record AreKept (job : Job) (grids : List Grid) : Type 0 where
+pub record AreKept (job : Job) (grids : List Grid) : Type 0 where
   pub sizes : HaveSizes grids job.matrices
   pub residues : All (AreResidues job.modulus) grids
 
 module _ (job : Job) (valid : IsJob job) where
-  kept_first : AreKept job job.matrices
+  pub kept_first : AreKept job job.matrices
   kept_first = record {
     sizes = record { count = refl; rows = λ n. refl; cols = λ n. refl };
     residues = valid.residues;
   }
 
   -- the statement's operation, which is valid, and fits the matrices that the statement meets
-  valid_operation : (n : ℕ) (op : Operation) → slice_get job.operations n ≡ Some op → IsValid op
+  pub valid_operation : (n : ℕ) (op : Operation) → slice_get job.operations n ≡ Some op → IsValid op
   valid_operation n op found = subst IsValid (get_or_from_slice_get job.operations n op op found) (valid.operations n op (slice_get_within job.operations n op found))
 
-  fits_kept : (s : Statement) (op : Operation) (grids : List Grid) → IsStatement job s → slice_get job.operations s.operation ≡ Some op → AreKept job grids
+  pub fits_kept : (s : Statement) (op : Operation) (grids : List Grid) → IsStatement job s → slice_get job.operations s.operation ≡ Some op → AreKept job grids
       → Fits op grids s.bind
   fits_kept s op grids is found kept =
       let same : is.operation ≡ op = same_Some is.operation op (sym is.found ∙ found) in
       Fits-same_sizes op grids job.matrices s.bind kept.sizes (subst (λ (o : Operation). Fits o job.matrices s.bind) same is.fits)
 
-  kept_next : (s : Statement) (before after : List Grid) → IsStatement job s → AreKept job before → Changes job s before after → AreKept job after
+  pub kept_next : (s : Statement) (before after : List Grid) → IsStatement job s → AreKept job before → Changes job s before after → AreKept job after
   kept_next s before after is kept change =
       let fits : Fits change.operation before s.bind = fits_kept s change.operation before is change.found kept in
       subst (AreKept job) (sym change.others) (record {

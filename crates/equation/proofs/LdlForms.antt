@@ -1,25 +1,22 @@
 -- A statement that finds the factors L * D * L', and has no bad pivot, has just one solution.
-use Rattle.std.proofs.Common.{◌≡◌, ℕ, ◌%◌, ◌<◌, ◌≤◌, List, inl, inr, sym, refl, subst, ◌∙◌, arith}
-use Rattle.std.proofs.Math.Nat.{mod-lt}
-use Rattle.std.proofs.lemmas.Bool.{cases_lt}
-use Rattle.residue_sums.specs.Residues.{Cong, IsUnit}
+use Rattle.std.proofs.Common.{◌≡◌, ℕ, ◌<◌, ◌≤◌, List, sym, refl, subst, ◌∙◌, arith}
+use Rattle.residue_sums.specs.Residues.{Cong}
 use Rattle.residue_sums.specs.Tables.{Table, product, transpose}
 use Rattle.residue_sums.specs.Grids.{Grid, AreResidues, entry}
-use Rattle.residue_sums.proofs.Congruence.{Cong-from_mod, Cong-sym, mod_from_Cong}
+use Rattle.residue_sums.proofs.Congruence.{Cong-sym, mod_from_Cong}
 use Rattle.structure_rules.specs.declared.Structure.{Structure}
 use Rattle.structure_rules.specs.declared.Structure.TheVariants.{Lower, UnitLower, Diagonal}
 use Rattle.structure_rules.specs.Structures.{view, IsEntry, IsInside}
-use Rattle.matrix_algebra.specs.Factors.{IsLdl, IsLdlBadPivot}
-use Rattle.matrix_algebra.proofs.Packed.{view-unit_lower_below, view-diagonal_here, IsUnitLower-view, IsDiagonal-view}
-use Rattle.matrix_algebra.proofs.LdlFactors.{ldl_lower_unique, ldl_diagonal_unique, ldl_units, ldl_solution}
-use Rattle.matrix_algebra.proofs.Solutions.{AgreeOn}
+use Rattle.matrix_algebra.specs.Factors.{IsLdlBadPivot}
+use Rattle.matrix_algebra.proofs.LdlFactors.{ldl_solution}
 use Rattle.matrix_algebra.proofs.Substitution.{Solution}
 use Rattle.operation_spec.specs.declared.operation.Operation.{Operation}
 use Rattle.operation_spec.specs.declared.operation.Form.TheVariants.{Ldl}
 use Rattle.equation.specs.declared.job.Place.{Place}
 use Rattle.equation.specs.Equations.{right_side, Satisfies}
-use Rattle.equation.specs.Pivots.{IsFirstBadPivot}
+use Rattle.equation.specs.Pivots.{IsBadForLdl, IsFirstBadPivot}
 use Rattle.equation.proofs.FactorLeftSides.{left_side-ldl}
+use Rattle.equation.proofs.PackedFactors.{PacksLdl, one_packed_ldl}
 use Rattle.equation.proofs.ReducedFactors.{no_bad_ldl}
 use Rattle.equation.proofs.SolvedGrids.{same_solution, solution_grid, HasResidues-right_side}
 
@@ -31,49 +28,25 @@ module _ (m : ℕ) (two : 2 ≤ m) (op : Operation) (knowns : List Grid) (work :
   is_low : (i j : ℕ) → IsInside op.work.structure i j → j ≤ i
   is_low i j inside = let not_above : ¬ (i < j) = rw lower at inside in omega arith
 
+  no_bad_place : (k : ℕ) → k < work.rows → ¬ (IsBadForLdl m (right_side m op knowns work) k)
+  no_bad_place k below bad = none (record { row = k; col = k }) (rw form (refl, below, bad))
+
   no_bad_block : ((i j : ℕ) → j ≤ i → i < work.rows → right_side m op knowns work i j < m) → (k : ℕ) → ¬ (IsLdlBadPivot m work.rows (right_side m op knowns work) k)
-  no_bad_block residues = no_bad_ldl m work.rows two (right_side m op knowns work) residues (λ k below bad. none (record { row = k; col = k }) (rw form (refl, below, bad)))
+  no_bad_block residues = no_bad_ldl m work.rows two (right_side m op knowns work) residues no_bad_place
 
   -- what a solution holds
-  module _ (x : Grid) (is : Satisfies m op knowns work x) where
-    is_product : (i j : ℕ) → j ≤ i → i < work.rows
-        → right_side m op knowns work i j ≡ product work.rows (product work.rows (view UnitLower (entry x)) (view Diagonal (entry x))) (transpose (view UnitLower (entry x))) i j % m
-    is_product i j low row =
+  packs : (x : Grid) → Satisfies m op knowns work x → PacksLdl m work.rows (right_side m op knowns work) (entry x)
+  packs x is = record {
+    equation = λ i j low row.
         let col : j < work.rows = omega arith in
         sym (is.equation i j row (rw (sym square) col) (is_inside i j low))
-        ∙ left_side-ldl m op knowns work.rows x (entry x) is.rows (is.cols ∙ sym square) (λ a b a_row b_col. refl) i j row col form
-
-    is_residue : (i j : ℕ) → j ≤ i → i < work.rows → right_side m op knowns work i j < m
-    is_residue i j low row = subst (λ v. v < m) (sym (is_product i j low row)) (mod-lt _ (omega arith))
-
-    is_ldl : IsLdl m work.rows (right_side m op knowns work) (view UnitLower (entry x)) (view Diagonal (entry x))
-    is_ldl = record {
-      lower = IsUnitLower-view work.rows (entry x);
-      diagonal = IsDiagonal-view work.rows (entry x);
-      equation = λ i j low row. Cong-sym (Cong-from_mod (is_product i j low row));
-    }
-
-    pivots : (i : ℕ) → i < work.rows → IsUnit m (view Diagonal (entry x) i i)
-    pivots = ldl_units m work.rows two (right_side m op knowns work) (view UnitLower (entry x)) (view Diagonal (entry x)) is_ldl (no_bad_block is_residue)
+        ∙ left_side-ldl m op knowns work.rows x (entry x) is.rows (is.cols ∙ sym square) (λ a b a_row b_col. refl) i j row col form;
+  }
 
   pub one_ldl : (x y : Grid) → Satisfies m op knowns work x → Satisfies m op knowns work y → x ≡ y
-  one_ldl x y x_is y_is = same_solution m op knowns work x y x_is y_is agree
-    where
-      on_diagonal : (i : ℕ) → i < work.rows → Cong m (entry x i i) (entry y i i)
-      on_diagonal i row = rw (view-diagonal_here (entry x) i i refl, view-diagonal_here (entry y) i i refl) at
-          (ldl_diagonal_unique m work.rows two (right_side m op knowns work) _ _ _ _ (is_ldl x x_is) (is_ldl y y_is)
-          (λ k before. pivots x x_is k (omega arith)) i row)
-
-      agree : AgreeOn m work.rows work.cols op.work.structure (entry x) (entry y)
-      agree i j within = elim (cases_lt j i) [
-        | inl below ↦ rw (view-unit_lower_below (entry x) i j below, view-unit_lower_below (entry y) i j below) at
-            (ldl_lower_unique m work.rows two (right_side m op knowns work) _ _ _ _ (is_ldl x x_is) (is_ldl y y_is)
-            (λ k before. pivots x x_is k (omega arith)) i j below within.row)
-        | inr level ↦
-            let low : j ≤ i = is_low i j within.inside in
-            let same : i ≡ j = omega arith in
-            subst (λ (k : ℕ). Cong m (entry x i k) (entry y i k)) same (on_diagonal i within.row)
-      ]
+  one_ldl x y x_is y_is = same_solution m op knowns work x y x_is y_is
+      (λ i j within. one_packed_ldl m work.rows two (right_side m op knowns work) no_bad_place (entry x) (entry y) (packs x x_is) (packs y y_is)
+      i j (is_low i j within.inside) within.row)
 
   pub some_ldl : AreResidues m work → (x : Grid) × Satisfies m op knowns work x
   some_ldl residues = solution_grid m op knowns work Holds (omega arith) residues found

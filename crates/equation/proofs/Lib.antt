@@ -1,25 +1,40 @@
-mod AssignedGrids
+pub mod AssignedGrids
 pub mod AssignedMeanings
 pub mod Assignments
-mod FactorLeftSides
+pub mod CandidateSides
+pub mod FactorLeftSides
 pub mod FactorPivots
-mod FirstNumbers
+pub mod FactorResidues
+pub mod FactorSizes
+pub mod FactorViews
+pub mod FirstNumbers
 pub mod FirstPivots
+pub mod FirstResiduals
+pub mod InputPivots
 pub mod JobMeanings
-mod LdlForms
-mod LeftSides
-mod LuForms
+pub mod KernelStatements
+pub mod KernelValues
+pub mod LdlForms
+pub mod LeftSides
+pub mod LuForms
 pub mod MatrixSizes
 pub mod MeaningLengths
-mod NextFactors
+pub mod NextFactors
 pub mod OneSolution
-mod PivotDecisions
-mod ReducedFactors
-mod SolvedGrids
+pub mod OneValue
+pub mod PackedFactors
+pub mod PivotDecisions
+pub mod ReducedFactors
+pub mod ResidualDecisions
+pub mod RowProducts
+pub mod SolvedGrids
 pub mod StatementOutcomes
-mod SylvesterForms
-mod TriangularForms
-mod UnitPivots
-mod ValidForms
+pub mod StatementReads
+pub mod SylvesterForms
+pub mod TermPieces
+pub mod TriangularForms
+pub mod UnitPivots
+pub mod ValidForms
+mod WorkedKernels
 mod WorkedPivots
 mod WorkedRows

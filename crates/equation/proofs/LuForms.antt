@@ -1,25 +1,22 @@
 -- A statement that finds the factors L * U, and has no bad pivot, has just one solution.
-use Rattle.std.proofs.Common.{◌≡◌, ℕ, ◌%◌, ◌<◌, ◌≤◌, List, inl, inr, sym, refl, subst, ◌∙◌, arith}
-use Rattle.std.proofs.Math.Nat.{mod-lt}
-use Rattle.std.proofs.lemmas.Bool.{cases_lt}
-use Rattle.residue_sums.specs.Residues.{Cong, IsUnit}
+use Rattle.std.proofs.Common.{◌≡◌, ℕ, ◌<◌, ◌≤◌, List, sym, refl, subst, ◌∙◌, arith}
+use Rattle.residue_sums.specs.Residues.{Cong}
 use Rattle.residue_sums.specs.Tables.{Table, product}
 use Rattle.residue_sums.specs.Grids.{Grid, AreResidues, entry}
-use Rattle.residue_sums.proofs.Congruence.{Cong-from_mod, Cong-sym, mod_from_Cong}
+use Rattle.residue_sums.proofs.Congruence.{Cong-sym, mod_from_Cong}
 use Rattle.structure_rules.specs.declared.Structure.{Structure}
 use Rattle.structure_rules.specs.declared.Structure.TheVariants.{General, UnitLower, Upper}
 use Rattle.structure_rules.specs.Structures.{view, IsEntry, IsInside}
-use Rattle.matrix_algebra.specs.Factors.{IsLu, IsLuBadPivot}
-use Rattle.matrix_algebra.proofs.Packed.{view-unit_lower_below, view-upper_above, IsUnitLower-view, IsUpper-view}
-use Rattle.matrix_algebra.proofs.LuFactors.{lu_lower_unique, lu_upper_unique, lu_units, lu_solution}
-use Rattle.matrix_algebra.proofs.Solutions.{AgreeOn}
+use Rattle.matrix_algebra.specs.Factors.{IsLuBadPivot}
+use Rattle.matrix_algebra.proofs.LuFactors.{lu_solution}
 use Rattle.matrix_algebra.proofs.Substitution.{Solution}
 use Rattle.operation_spec.specs.declared.operation.Operation.{Operation}
 use Rattle.operation_spec.specs.declared.operation.Form.TheVariants.{Lu}
 use Rattle.equation.specs.declared.job.Place.{Place}
 use Rattle.equation.specs.Equations.{right_side, Satisfies}
-use Rattle.equation.specs.Pivots.{IsFirstBadPivot}
+use Rattle.equation.specs.Pivots.{IsBadForLu, IsFirstBadPivot}
 use Rattle.equation.proofs.FactorLeftSides.{left_side-lu}
+use Rattle.equation.proofs.PackedFactors.{PacksLu, one_packed_lu}
 use Rattle.equation.proofs.ReducedFactors.{no_bad_lu}
 use Rattle.equation.proofs.SolvedGrids.{same_solution, solution_grid, HasResidues-right_side}
 
@@ -28,41 +25,24 @@ module _ (m : ℕ) (two : 2 ≤ m) (op : Operation) (knowns : List Grid) (work :
   is_inside : (i j : ℕ) → IsInside op.work.structure i j
   is_inside i j = rw general (λ outside. outside)
 
+  no_bad_place : (k : ℕ) → k < work.rows → ¬ (IsBadForLu m (right_side m op knowns work) k)
+  no_bad_place k below bad = none (record { row = k; col = k }) (rw form (refl, below, bad))
+
   no_bad_block : ((i j : ℕ) → i < work.rows → j < work.rows → right_side m op knowns work i j < m) → (k : ℕ) → ¬ (IsLuBadPivot m work.rows (right_side m op knowns work) k)
-  no_bad_block residues = no_bad_lu m work.rows two (right_side m op knowns work) residues (λ k below bad. none (record { row = k; col = k }) (rw form (refl, below, bad)))
+  no_bad_block residues = no_bad_lu m work.rows two (right_side m op knowns work) residues no_bad_place
 
   -- what a solution holds
-  module _ (x : Grid) (is : Satisfies m op knowns work x) where
-    is_product : (i j : ℕ) → i < work.rows → j < work.rows → right_side m op knowns work i j ≡ product work.rows (view UnitLower (entry x)) (view Upper (entry x)) i j % m
-    is_product i j row col =
+  packs : (x : Grid) → Satisfies m op knowns work x → PacksLu m work.rows (right_side m op knowns work) (entry x)
+  packs x is = record {
+    equation = λ i j row col.
         sym (is.equation i j row (rw (sym square) col) (is_inside i j))
-        ∙ left_side-lu m op knowns work.rows x (entry x) is.rows (is.cols ∙ sym square) (λ a b a_row b_col. refl) i j row col form
-
-    is_residue : (i j : ℕ) → i < work.rows → j < work.rows → right_side m op knowns work i j < m
-    is_residue i j row col = subst (λ v. v < m) (sym (is_product i j row col)) (mod-lt _ (omega arith))
-
-    is_lu : IsLu m work.rows (right_side m op knowns work) (view UnitLower (entry x)) (view Upper (entry x))
-    is_lu = record {
-      lower = IsUnitLower-view work.rows (entry x);
-      upper = IsUpper-view work.rows (entry x);
-      equation = λ i j row col. Cong-sym (Cong-from_mod (is_product i j row col));
-    }
-
-    pivots : (i : ℕ) → i < work.rows → IsUnit m (view Upper (entry x) i i)
-    pivots = lu_units m work.rows two (right_side m op knowns work) (view UnitLower (entry x)) (view Upper (entry x)) is_lu (no_bad_block is_residue)
+        ∙ left_side-lu m op knowns work.rows x (entry x) is.rows (is.cols ∙ sym square) (λ a b a_row b_col. refl) i j row col form;
+  }
 
   pub one_lu : (x y : Grid) → Satisfies m op knowns work x → Satisfies m op knowns work y → x ≡ y
-  one_lu x y x_is y_is = same_solution m op knowns work x y x_is y_is agree
-    where
-      agree : AgreeOn m work.rows work.cols op.work.structure (entry x) (entry y)
-      agree i j within = elim (cases_lt j i) [
-        | inl below ↦ rw (view-unit_lower_below (entry x) i j below, view-unit_lower_below (entry y) i j below) at
-            (lu_lower_unique m work.rows two (right_side m op knowns work) _ _ _ _ (is_lu x x_is) (is_lu y y_is)
-            (λ k before. pivots x x_is k (omega arith)) i j below within.row)
-        | inr above ↦ rw (view-upper_above (entry x) i j above, view-upper_above (entry y) i j above) at
-            (lu_upper_unique m work.rows two (right_side m op knowns work) _ _ _ _ (is_lu x x_is) (is_lu y y_is)
-            (λ k before. pivots x x_is k (omega arith)) i j above (rw square within.col))
-      ]
+  one_lu x y x_is y_is = same_solution m op knowns work x y x_is y_is
+      (λ i j within. one_packed_lu m work.rows two (right_side m op knowns work) no_bad_place (entry x) (entry y) (packs x x_is) (packs y y_is)
+      i j within.row (rw square within.col))
 
   pub some_lu : AreResidues m work → (x : Grid) × Satisfies m op knowns work x
   some_lu residues = solution_grid m op knowns work Holds (omega arith) residues found

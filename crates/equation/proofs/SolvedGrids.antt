@@ -3,17 +3,17 @@ use Rattle.std.proofs.Common.{◌≡◌, ℕ, ◌<◌, ◌⊎◌, List, if◌the
 use Rattle.std.proofs.lemmas.Bool.Decides.{nat_tests}
 use Rattle.residue_sums.specs.Tables.{Table}
 use Rattle.residue_sums.specs.Grids.{Grid, AreResidues, HasEntries, entry}
-use Rattle.residue_sums.proofs.Congruence.{same_from_Cong}
-use Rattle.residue_sums.proofs.Grids.{same_from_HasEntries, entry_below}
 use Rattle.structure_rules.specs.declared.Structure.{Structure}
 use Rattle.structure_rules.specs.Structures.{view, IsEntry, IsWorkStructure, is_zero}
-use Rattle.structure_rules.proofs.Views.{IsZero-or_inside, IsEntry-or_not}
+use Rattle.structure_rules.proofs.Views.{IsEntry-or_not}
 use Rattle.matrix_algebra.proofs.Substitution.{Solution}
 use Rattle.matrix_algebra.proofs.Solutions.{AgreeOn}
 use Rattle.operation_spec.specs.declared.operation.Operation.{Operation}
 use Rattle.equation.specs.Equations.{left_side, right_side, solution_table, Satisfies}
+use Rattle.equation.specs.Kernels.{IsValue}
 use Rattle.equation.specs.Pivots.{HasResidues}
 use Rattle.equation.proofs.AssignedGrids.{grid_of, IsFull-grid_of, HasEntries-grid_of, AreResidues-grid_of, HasResidues-entry, HasResidues-terms}
+use Rattle.equation.proofs.OneValue.{one_value}
 
 -- what a work structure reads, by the test
 view-by_test : (s : Structure) (a : Table) (i j : ℕ) → IsWorkStructure s → view s a i j ≡ (if is_zero s i j then 0 else a i j)
@@ -24,21 +24,22 @@ pub solution_table-view : (op : Operation) (x : Grid) (a : Table) (i j : ℕ) �
     → solution_table op x i j ≡ view op.work.structure a i j
 solution_table-view op x a i j work e = rw e (sym (view-by_test op.work.structure a i j work))
 
+-- what a solution keeps
+kept : (m : ℕ) (op : Operation) (knowns : List Grid) (work x : Grid) → Satisfies m op knowns work x
+    → IsValue m op.work.structure (λ a. right_side m op knowns work) (right_side m op knowns work) work x
+kept m op knowns work x is = record {
+  rows = is.rows;
+  cols = is.cols;
+  full = is.full;
+  residues = is.residues;
+  equation = λ i j row col inside. refl;
+  others = is.others;
+}
+
 -- two matrices that satisfy an equation, and agree on the entries of the work structure, are one
 pub same_solution : (m : ℕ) (op : Operation) (knowns : List Grid) (work x y : Grid) → Satisfies m op knowns work x → Satisfies m op knowns work y
     → AgreeOn m work.rows work.cols op.work.structure (entry x) (entry y) → x ≡ y
-same_solution m op knowns work x y x_is y_is agree =
-    same_from_HasEntries x y (entry y) x_is.full y_is.full (x_is.rows ∙ sym y_is.rows) (x_is.cols ∙ sym y_is.cols)
-    (λ i j row col. each i j (rw (sym x_is.rows) row) (rw (sym x_is.cols) col)) (λ i j row col. refl)
-  where
-    each : (i j : ℕ) → i < work.rows → j < work.cols → entry x i j ≡ entry y i j
-    each i j row col = elim (IsZero-or_inside op.work.structure i j) [
-      | inl none ↦ x_is.others i j row col none ∙ sym (y_is.others i j row col none)
-      | inr inside ↦ same_from_Cong
-          (entry_below m x i j x_is.full x_is.residues (rw x_is.rows row) (rw x_is.cols col))
-          (entry_below m y i j y_is.full y_is.residues (rw y_is.rows row) (rw y_is.cols col))
-          (agree i j (record { row = row; col = col; inside = inside }))
-    ]
+same_solution m op knowns work x y x_is y_is = one_value m op.work.structure _ _ work x y (kept m op knowns work x x_is) (kept m op knowns work y y_is)
 
 -- the right side has residues
 pub HasResidues-right_side : (m : ℕ) (op : Operation) (knowns : List Grid) (work : Grid) → 0 < m → AreResidues m work → HasResidues m (right_side m op knowns work)

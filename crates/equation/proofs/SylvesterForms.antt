@@ -1,12 +1,10 @@
 -- A statement whose form has two triangular factors, and no bad pivot, has just one solution.
-use Rattle.std.proofs.Common.{◌≡◌, ℕ, ◌+◌, ◌-◌, ◌%◌, ◌<◌, ◌≤◌, List, Bool, true, false, sym, refl, ◌∙◌, arith}
+use Rattle.std.proofs.Common.{◌≡◌, ℕ, ◌+◌, ◌-◌, ◌%◌, ◌<◌, ◌≤◌, List, true, false, sym, refl, ◌∙◌, arith}
 use Rattle.std.proofs.Math.Nat.{mod-lt}
-use Rattle.std.proofs.lemmas.Bool.Decides.{nat_tests}
 use Rattle.residue_sums.specs.Residues.{Cong, IsUnit}
-use Rattle.residue_sums.specs.Tables.{Table, oriented, product, plus}
+use Rattle.residue_sums.specs.Tables.{Table, product, plus}
 use Rattle.residue_sums.specs.Grids.{Grid, AreResidues, entry}
 use Rattle.residue_sums.proofs.Congruence.{Cong-add, Cong-from_mod, Cong-from_difference, Cong-mod, Cong-refl, Cong-sym, Cong-trans, IsUnit-Cong, difference_from_Cong, mod_from_Cong}
-use Rattle.structure_rules.specs.declared.Structure.{Structure}
 use Rattle.structure_rules.specs.Structures.{view}
 use Rattle.matrix_algebra.proofs.Solutions.{AgreeOn, sylvester_plus_unique, sylvester_minus_unique, sylvester_plus_solution, sylvester_minus_solution}
 use Rattle.matrix_algebra.proofs.Triangles.{IsTriangle-view, IsTriangle-view_transposed}
@@ -16,8 +14,8 @@ use Rattle.operation_spec.specs.declared.operation.Form.TheVariants.{Sylvester}
 use Rattle.operation_spec.specs.ValidOperations.{IsValid}
 use Rattle.equation.specs.declared.job.Place.{Place}
 use Rattle.equation.specs.Equations.{known_grid, factor_table, minus, right_side, Satisfies}
-use Rattle.equation.specs.Pivots.{IsFirstBadPivot, HasResidues, factor_pivots}
-use Rattle.equation.proofs.AssignedGrids.{HasResidues-entry}
+use Rattle.equation.specs.Pivots.{IsFirstBadPivot, factor_pivots}
+use Rattle.equation.proofs.FactorResidues.{HasResidues-factor}
 use Rattle.equation.proofs.LeftSides.{left_side-plus, left_side-minus}
 use Rattle.equation.proofs.SolvedGrids.{same_solution, solution_grid, HasResidues-right_side}
 use Rattle.equation.proofs.UnitPivots.{units_by_rows}
@@ -25,13 +23,13 @@ use Rattle.equation.proofs.ValidForms.{known_structure, work-valid, sylvester-tr
 
 -- ---- sums and differences of residues as congruences, and back
 
-sum_solved : (m p q r : ℕ) → r ≡ (p % m + q % m) % m → Cong m (p + q) r
+pub sum_solved : (m p q r : ℕ) → r ≡ (p % m + q % m) % m → Cong m (p + q) r
 sum_solved m p q r e = Cong-sym (Cong-trans (Cong-from_mod e) (Cong-add (Cong-mod m p) (Cong-mod m q)))
 
 sum_solving : (m p q r : ℕ) → r < m → Cong m (p + q) r → (p % m + q % m) % m ≡ r
 sum_solving m p q r below h = sym (mod_from_Cong below (Cong-sym (Cong-trans (Cong-add (Cong-mod m p) (Cong-mod m q)) h)))
 
-difference_solved : (m p q r : ℕ) → 0 < m → r ≡ (p % m + (m - q % m)) % m → Cong m p (r + q)
+pub difference_solved : (m p q r : ℕ) → 0 < m → r ≡ (p % m + (m - q % m)) % m → Cong m p (r + q)
 difference_solved m p q r pos e =
     let below : q % m < m = mod-lt q pos in
     let h : Cong m (r + q % m) (p % m) = Cong-from_difference (q % m) (p % m + (m - q % m)) e (omega arith) in
@@ -42,21 +40,6 @@ difference_solving m p q r r_below h =
     let below : q % m < m = mod-lt q (omega arith) in
     sym (difference_from_Cong (q % m) (p % m + (m - q % m)) r_below
     (Cong-trans (Cong-add (Cong-refl m r) (Cong-mod m q)) (Cong-trans (Cong-sym h) (Cong-sym (Cong-mod m p)))) (omega arith))
-
--- ---- a factor of a matrix of residues has residues
-
-view-below : (m : ℕ) (s : Structure) (a : Table) (i j : ℕ) → 2 ≤ m → a i j < m → a j i < m → view s a i j < m
-view-below m s a i j two here mirrored = grind (arith, nat_tests)
-
-oriented-below : (m : ℕ) (primed : Bool) (a : Table) → HasResidues m a → HasResidues m (oriented primed a)
-oriented-below m true a residues i j = residues j i
-oriented-below m false a residues i j = residues i j
-
-HasResidues-factor : (m : ℕ) (op : Operation) (knowns : List Grid) (f : Factor) → 2 ≤ m → AreResidues m (known_grid knowns f.known) → HasResidues m (factor_table op knowns f)
-HasResidues-factor m op knowns f two residues =
-    let entries : HasResidues m (entry (known_grid knowns f.known)) = HasResidues-entry m (known_grid knowns f.known) (omega arith) residues in
-    oriented-below m f.primed (view (known_structure op f) (entry (known_grid knowns f.known)))
-    (λ i j. view-below m (known_structure op f) (entry (known_grid knowns f.known)) i j two (entries i j) (entries j i))
 
 module _ (m : ℕ) (two : 2 ≤ m) (op : Operation) (valid : IsValid op) (knowns : List Grid) (work : Grid)
     (none : (place : Place) → ¬ (IsFirstBadPivot m op knowns work place)) (t u : Factor) where

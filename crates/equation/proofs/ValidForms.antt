@@ -48,32 +48,55 @@ work-from_test Diagonal h = absurd (cc)
 abbrev pub known_structure : Operation → Factor → Structure
 known_structure op t = (slice_index_or op.knowns t.known op.work).structure
 
+-- a factor with a triangular structure on a dimension
+pub record IsTriangleOn (op : Operation) (dim : ℕ) (f : Factor) : Type 0 where
+  pub triangular : IsTriangular (known_structure op f)
+  pub rows : (slice_index_or op.knowns f.known op.work).rows ≡ dim
+
 -- a factor that passes the test of its form
-factor-triangular : (op : Operation) (dim : ℕ) (f : Factor) → is_triangle_on op.work op.knowns dim (side_of_factor f) ≡ true → IsTriangular (known_structure op f)
-factor-triangular op dim f h =
+factor-on : (op : Operation) (dim : ℕ) (f : Factor) → is_triangle_on op.work op.knowns dim (side_of_factor f) ≡ true → IsTriangleOn op dim f
+factor-on op dim f h =
     let at_known : is_triangle (known_structure op f) && (slice_index_or op.knowns f.known op.work).rows == dim ≡ true = rw (add-one f.known) at h in
-    triangular-from_test (known_structure op f) (and_parts (is_triangle (known_structure op f)) ((slice_index_or op.knowns f.known op.work).rows == dim) at_known).0
+    let parts = and_parts (is_triangle (known_structure op f)) ((slice_index_or op.knowns f.known op.work).rows == dim) at_known in
+    record { triangular = triangular-from_test (known_structure op f) parts.0; rows = eqb-true _ _ parts.1 }
 
 module _ (op : Operation) (valid : IsValid op) where
   pub work-valid : IsWorkStructure op.work.structure
   work-valid = work-from_test op.work.structure valid.work
 
-  pub left-triangular : (t : Factor) → op.form ≡ Left t → IsTriangular (known_structure op t)
-  left-triangular t form =
+  pub left-on : (t : Factor) → op.form ≡ Left t → IsTriangleOn op op.work.rows t
+  left-on t form =
       let meets : meets_form op.work op.knowns (left_of_form op.form) ≡ true = valid.form in
-      factor-triangular op op.work.rows t (rw form at meets)
+      factor-on op op.work.rows t (rw form at meets)
 
-  pub right-triangular : (t : Factor) → op.form ≡ Right t → IsTriangular (known_structure op t)
-  right-triangular t form =
+  pub right-on : (t : Factor) → op.form ≡ Right t → IsTriangleOn op op.work.cols t
+  right-on t form =
       let meets : meets_form op.work op.knowns (left_of_form op.form) ≡ true = valid.form in
-      factor-triangular op op.work.cols t (rw form at meets)
+      factor-on op op.work.cols t (rw form at meets)
 
-  pub sylvester-triangular : (t u : Factor) (minus : Bool) → op.form ≡ Sylvester t u minus → IsTriangular (known_structure op t) × IsTriangular (known_structure op u)
-  sylvester-triangular t u minus form =
+  pub sylvester-on : (t u : Factor) (minus : Bool) → op.form ≡ Sylvester t u minus → IsTriangleOn op op.work.rows t × IsTriangleOn op op.work.cols u
+  sylvester-on t u minus form =
       let meets : meets_form op.work op.knowns (left_of_form op.form) ≡ true = valid.form in
       let outer = and_parts _ (is_triangle_on op.work op.knowns op.work.cols (side_of_factor u)) (rw form at meets) in
       let inner = and_parts (is_general op.work.structure) (is_triangle_on op.work op.knowns op.work.rows (side_of_factor t)) outer.0 in
-      (factor-triangular op op.work.rows t inner.1, factor-triangular op op.work.cols u outer.1)
+      (factor-on op op.work.rows t inner.1, factor-on op op.work.cols u outer.1)
+
+  pub left-triangular : (t : Factor) → op.form ≡ Left t → IsTriangular (known_structure op t)
+  left-triangular t form = let on : IsTriangleOn op op.work.rows t = left-on t form in on.triangular
+
+  pub right-triangular : (t : Factor) → op.form ≡ Right t → IsTriangular (known_structure op t)
+  right-triangular t form = let on : IsTriangleOn op op.work.cols t = right-on t form in on.triangular
+
+  pub sylvester-triangular : (t u : Factor) (minus : Bool) → op.form ≡ Sylvester t u minus → IsTriangular (known_structure op t) × IsTriangular (known_structure op u)
+  sylvester-triangular t u minus form =
+      let on : IsTriangleOn op op.work.rows t × IsTriangleOn op op.work.cols u = sylvester-on t u minus form in
+      (on.0.triangular, on.1.triangular)
+
+  pub sylvester-general : (t u : Factor) (minus : Bool) → op.form ≡ Sylvester t u minus → op.work.structure ≡ General
+  sylvester-general t u minus form =
+      let meets : meets_form op.work op.knowns (left_of_form op.form) ≡ true = valid.form in
+      let outer = and_parts _ (is_triangle_on op.work op.knowns op.work.cols (side_of_factor u)) (rw form at meets) in
+      general-from_test op.work.structure (and_parts (is_general op.work.structure) (is_triangle_on op.work op.knowns op.work.rows (side_of_factor t)) outer.0).0
 
   pub lu-general : op.form ≡ Lu → (op.work.structure ≡ General) × (op.work.rows ≡ op.work.cols)
   lu-general form =

@@ -127,3 +127,64 @@ ldl_last = (
     units : (i : ℕ) → i < 1 → IsUnit 5 (first_row 2 i i)
     units zero less = (3, omega arith, refl)
     units (suc i) less = absurd (omega arith)
+
+-- of three pivots the second is 0
+lu_middle : IsFirstBadPivot 7 lu [] (grid 3 3 (1 ∷ 1 ∷ 4 ∷ 1 ∷ 1 ∷ 5 ∷ 2 ∷ 3 ∷ 6 ∷ [])) (place 1 1)
+unfolding lu
+lu_middle = (
+  refl,
+  omega arith,
+  record {
+    l = λ i j. 1;
+    u = first_row 1;
+    l_residues = λ i j. omega arith;
+    u_residues = HasResidues-first_row 7 1 (omega arith);
+    product = products;
+    units = units;
+    bad = λ unit. let e : (0 * unit.0) % 7 ≡ 1 = unit.2 in omega arith;
+  },
+)
+  where
+    products : (i j : ℕ) → i ≤ 1 → j ≤ 1
+        → times 7 2 (view UnitLower (λ i j. 1)) (view Upper (first_row 1)) i j ≡ entry (grid 3 3 (1 ∷ 1 ∷ 4 ∷ 1 ∷ 1 ∷ 5 ∷ 2 ∷ 3 ∷ 6 ∷ [])) i j
+    products zero zero row col = refl
+    products zero (suc zero) row col = refl
+    products (suc zero) zero row col = refl
+    products (suc zero) (suc zero) row col = refl
+    products zero (suc (suc j)) row col = absurd (omega arith)
+    products (suc zero) (suc (suc j)) row col = absurd (omega arith)
+    products (suc (suc i)) j row col = absurd (omega arith)
+
+    units : (i : ℕ) → i < 1 → IsUnit 7 (first_row 1 i i)
+    units zero less = (1, omega arith, refl)
+    units (suc i) less = absurd (omega arith)
+
+-- of three pivots the second is 0; what stands above the diagonal isn't read
+ldl_middle : IsFirstBadPivot 5 ldl [] (grid 3 3 (2 ∷ 4 ∷ 4 ∷ 1 ∷ 3 ∷ 4 ∷ 2 ∷ 3 ∷ 1 ∷ [])) (place 1 1)
+unfolding ldl
+ldl_middle = (
+  refl,
+  omega arith,
+  record {
+    l = λ i j. 3;
+    d = first_row 2;
+    l_residues = λ i j. omega arith;
+    d_residues = HasResidues-first_row 5 2 (omega arith);
+    product = products;
+    units = units;
+    bad = λ unit. let e : (0 * unit.0) % 5 ≡ 1 = unit.2 in omega arith;
+  },
+)
+  where
+    products : (i j : ℕ) → i ≤ 1 → j ≤ i → times 5 2 (times 5 2 (view UnitLower (λ i j. 3)) (view Diagonal (first_row 2))) (transpose (view UnitLower (λ i j. 3))) i j
+        ≡ entry (grid 3 3 (2 ∷ 4 ∷ 4 ∷ 1 ∷ 3 ∷ 4 ∷ 2 ∷ 3 ∷ 1 ∷ [])) i j
+    products zero zero row col = refl
+    products (suc zero) zero row col = refl
+    products (suc zero) (suc zero) row col = refl
+    products zero (suc j) row col = absurd (omega arith)
+    products (suc zero) (suc (suc j)) row col = absurd (omega arith)
+    products (suc (suc i)) j row col = absurd (omega arith)
+
+    units : (i : ℕ) → i < 1 → IsUnit 5 (first_row 2 i i)
+    units zero less = (3, omega arith, refl)
+    units (suc i) less = absurd (omega arith)

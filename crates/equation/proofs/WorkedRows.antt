@@ -3,10 +3,10 @@
 use Rattle.std.proofs.Common.{◌≡◌, ℕ, List, [], ◌∷◌, true, false, refl, codes}
 use Rattle.residue_sums.specs.Tables.{Table}
 use Rattle.residue_sums.specs.Grids.{Grid, entry}
-use Rattle.structure_rules.specs.declared.Structure.TheVariants.{General}
+use Rattle.structure_rules.specs.declared.Structure.TheVariants.{General, Upper, UnitUpper, Diagonal}
 use Rattle.operation_spec.specs.declared.operation.Operation.{Operation}
 use Rattle.operation_spec.specs.declared.operation.Form.TheVariants.{Assign}
-use Rattle.operation_spec.proofs.WorkedOperations.{operand, factor, added, mul, lu, ldl, low, inv, syl, sqr, syl_lower, upp_right}
+use Rattle.operation_spec.proofs.WorkedOperations.{operand, factor, added, mul, lu, ldl, low, low_primed, inv, syl, sqr, sym, low_right, syl_lower, upp_right}
 use Rattle.equation.specs.Equations.{left_side, right_side}
 
 abbrev grid : ℕ → ℕ → List ℕ → Grid
@@ -219,3 +219,119 @@ module _ where
   ldl_refused : (left_side 7 ldl [] (grid 2 2 (2 ∷ 6 ∷ 4 ∷ 5 ∷ [])) 1 1 ≡ 2) × (right_side 7 ldl [] ldl_work 1 1 ≡ 3)
   unfolding ldl
   ldl_refused = (refl, refl)
+
+-- X * T = W with a lower T: the 5 above its diagonal isn't read
+module _ where
+  abbrev lower_knowns : List Grid
+  lower_knowns = grid 2 2 (2 ∷ 5 ∷ 1 ∷ 3 ∷ []) ∷ []
+
+  abbrev lower_work : Grid
+  lower_work = grid 1 2 (3 ∷ 1 ∷ [])
+
+  low_right_satisfied : row (left_side 7 low_right lower_knowns (grid 1 2 (6 ∷ 5 ∷ []))) ≡ row (right_side 7 low_right lower_knowns lower_work)
+  unfolding low_right
+  low_right_satisfied = refl
+
+  low_right_refused : (left_side 7 low_right lower_knowns (grid 1 2 (5 ∷ 5 ∷ [])) 0 0 ≡ 1) × (right_side 7 low_right lower_knowns lower_work 0 0 ≡ 3)
+  unfolding low_right
+  low_right_refused = (refl, refl)
+
+-- T' * X = W with the same T
+module _ where
+  abbrev primed_work : Grid
+  primed_work = grid 2 1 (6 ∷ 5 ∷ [])
+
+  primed_satisfied : column (left_side 7 low_primed lower_knowns (grid 2 1 (1 ∷ 4 ∷ []))) ≡ column (right_side 7 low_primed lower_knowns primed_work)
+  unfolding low_primed
+  primed_satisfied = refl
+
+  primed_refused : (left_side 7 low_primed lower_knowns (grid 2 1 (1 ∷ 3 ∷ [])) 0 0 ≡ 5) × (right_side 7 low_primed lower_knowns primed_work 0 0 ≡ 6)
+  unfolding low_primed
+  primed_refused = (refl, refl)
+
+-- T * X - X * U = W, both lower
+module _ where
+  abbrev both_knowns : List Grid
+  both_knowns = grid 2 2 (2 ∷ 5 ∷ 1 ∷ 3 ∷ []) ∷ grid 2 2 (5 ∷ 3 ∷ 4 ∷ 6 ∷ []) ∷ []
+
+  abbrev both_work : Grid
+  both_work = grid 2 2 (3 ∷ 1 ∷ 2 ∷ 5 ∷ [])
+
+  both_satisfied : square (left_side 7 syl_lower both_knowns (grid 2 2 (4 ∷ 5 ∷ 1 ∷ 0 ∷ []))) ≡ square (right_side 7 syl_lower both_knowns both_work)
+  unfolding syl_lower
+  both_satisfied = refl
+
+  both_refused : (left_side 7 syl_lower both_knowns (grid 2 2 (4 ∷ 5 ∷ 1 ∷ 1 ∷ [])) 1 1 ≡ 2) × (right_side 7 syl_lower both_knowns both_work 1 1 ≡ 5)
+  unfolding syl_lower
+  both_refused = (refl, refl)
+
+-- X = W + A * B with a symmetric A: the 5 above its diagonal isn't read
+module _ where
+  abbrev mirrored_knowns : List Grid
+  mirrored_knowns = grid 2 2 (1 ∷ 5 ∷ 2 ∷ 3 ∷ []) ∷ grid 2 1 (1 ∷ 3 ∷ []) ∷ []
+
+  abbrev mirrored_work : Grid
+  mirrored_work = grid 2 1 (1 ∷ 1 ∷ [])
+
+  mirrored_satisfied : column (left_side 7 sym mirrored_knowns (grid 2 1 (1 ∷ 5 ∷ []))) ≡ column (right_side 7 sym mirrored_knowns mirrored_work)
+  unfolding sym
+  mirrored_satisfied = refl
+
+  mirrored_refused : (left_side 7 sym mirrored_knowns (grid 2 1 (3 ∷ 5 ∷ [])) 0 0 ≡ 3) × (right_side 7 sym mirrored_knowns mirrored_work 0 0 ≡ 1)
+  unfolding sym
+  mirrored_refused = (refl, refl)
+
+-- X = W + D * V with a diagonal D and a unit upper V: of D the diagonal is read alone, of V what stands above it
+module _ where
+  unfoldable scaled : Operation
+  scaled = record {
+    name = codes "scaled";
+    dims = codes "n" ∷ [];
+    work = operand (codes "W") General 0 0;
+    knowns = operand (codes "D") Diagonal 0 0 ∷ operand (codes "V") UnitUpper 0 0 ∷ [];
+    form = Assign;
+    terms = added 0 1 ∷ [];
+  }
+
+  abbrev scaled_knowns : List Grid
+  scaled_knowns = grid 2 2 (2 ∷ 4 ∷ 5 ∷ 3 ∷ []) ∷ grid 2 2 (6 ∷ 5 ∷ 4 ∷ 6 ∷ []) ∷ []
+
+  abbrev scaled_work : Grid
+  scaled_work = grid 2 2 (1 ∷ 1 ∷ 1 ∷ 1 ∷ [])
+
+  scaled_satisfied : square (left_side 7 scaled scaled_knowns (grid 2 2 (3 ∷ 4 ∷ 1 ∷ 4 ∷ []))) ≡ square (right_side 7 scaled scaled_knowns scaled_work)
+  unfolding scaled
+  scaled_satisfied = refl
+
+  scaled_refused : (left_side 7 scaled scaled_knowns (grid 2 2 (3 ∷ 4 ∷ 6 ∷ 4 ∷ [])) 1 0 ≡ 6) × (right_side 7 scaled scaled_knowns scaled_work 1 0 ≡ 1)
+  unfolding scaled
+  scaled_refused = (refl, refl)
+
+-- X = W + A * B on the upper part of W; the entry below the diagonal stays
+module _ where
+  unfoldable above : Operation
+  above = record {
+    name = codes "above";
+    dims = codes "n" ∷ [];
+    work = operand (codes "W") Upper 0 0;
+    knowns = operand (codes "A") General 0 0 ∷ operand (codes "B") General 0 0 ∷ [];
+    form = Assign;
+    terms = added 0 1 ∷ [];
+  }
+
+  abbrev above_knowns : List Grid
+  above_knowns = grid 2 2 (1 ∷ 2 ∷ 3 ∷ 4 ∷ []) ∷ grid 2 2 (5 ∷ 6 ∷ 1 ∷ 2 ∷ []) ∷ []
+
+  abbrev above_work : Grid
+  above_work = grid 2 2 (1 ∷ 2 ∷ 3 ∷ 4 ∷ [])
+
+  abbrev upper : Table → List ℕ
+  upper a = a 0 0 ∷ a 0 1 ∷ a 1 1 ∷ []
+
+  above_satisfied : upper (left_side 7 above above_knowns (grid 2 2 (1 ∷ 5 ∷ 3 ∷ 2 ∷ []))) ≡ upper (right_side 7 above above_knowns above_work)
+  unfolding above
+  above_satisfied = refl
+
+  above_refused : (left_side 7 above above_knowns (grid 2 2 (1 ∷ 4 ∷ 3 ∷ 2 ∷ [])) 0 1 ≡ 4) × (right_side 7 above above_knowns above_work 0 1 ≡ 5)
+  unfolding above
+  above_refused = (refl, refl)

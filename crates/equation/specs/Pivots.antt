@@ -77,3 +77,14 @@ IsFirstBadPivot m op knowns work place = bad op.form
         else plus m (λ i j. factor_pivots op knowns t i) (λ i j. factor_pivots op knowns u j)) place
     bad Lu = (place.col ≡ place.row) × (place.row < work.rows) × IsBadForLu m (right_side m op knowns work) place.row
     bad Ldl = (place.col ≡ place.row) × (place.row < work.rows) × IsBadForLdl m (right_side m op knowns work) place.row
+
+-- the form's pivots are given by the known matrices alone
+abbrev pub HasInputPivots : Form → Type 0
+HasInputPivots (Left t) = Unit {0}
+HasInputPivots (Right t) = Unit {0}
+HasInputPivots (Sylvester t u negative) = Unit {0}
+HasInputPivots _ = ⊥
+
+-- the place has the first bad pivot of an operation with such a form
+abbrev pub IsFirstBadInputPivot : ℕ → Operation → List Grid → Grid → Place → Type 0
+IsFirstBadInputPivot m op knowns work place = HasInputPivots op.form × IsFirstBadPivot m op knowns work place

@@ -5,7 +5,14 @@
 //! never of blocks, tasks or loops. `laws` says what follows from them.
 #![tactic(auto)]
 
+mod candidate;
+mod input_pivots;
 mod job;
 pub mod laws;
+mod residuals;
+mod row_products;
+mod views;
 
+pub use input_pivots::first_bad_input_pivot;
 pub use job::{Job, OperationList, Place, Statement, StatementList};
+pub use residuals::{residual, residual_row};

@@ -1,0 +1,21 @@
+use Rattle.std.proofs.Common.{◌+◌, ◌∙◌, sym, arith}
+use Rattle.equation.proofs.CandidateSides.{right_cols, right_is, right_rows, seen_cols, work_square}
+use Rattle.equation.proofs.candidate.Candidate.write_solved_right.Goals as goal
+
+pub seen-x-requires-clause-square : goal.seen-x-requires-clause-square
+seen-x-requires-clause-square c = work_square c.args.self.now c.requires.candidate
+
+pub write_product-requires-clause-inner : goal.write_product-requires-clause-inner
+write_product-requires-clause-inner c =
+    seen_cols c.args.self.now _ c.seen-x.result c.seen-x.ensures ∙ c.requires.candidate.cols
+    ∙ sym (right_rows c.args.self.now c.requires.candidate c.args.t c.requires.form c.factor-t.result c.seen-x.result c.factor-t.ensures c.seen-x.ensures)
+
+pub write_product-requires-clause-within : goal.write_product-requires-clause-within
+write_product-requires-clause-within c =
+    rw (right_cols c.args.self.now c.requires.candidate c.args.t c.requires.form c.factor-t.result c.seen-x.result c.factor-t.ensures c.seen-x.ensures) c.requires.piece.within
+
+pub returns : goal.returns
+returns c = λ j within.
+    c.write_product.ensures j (omega arith)
+    ∙ right_is c.args.self.now c.requires.candidate c.args.t c.requires.form c.factor-t.result c.seen-x.result c.factor-t.ensures c.seen-x.ensures
+    c.args.at.row (c.args.at.col + j) c.requires.piece.row (omega (arith, c.requires.piece.within))
