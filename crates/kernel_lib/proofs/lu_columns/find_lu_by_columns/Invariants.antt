@@ -1,0 +1,16 @@
+use Rattle.std.proofs.Common.{◌≡◌, ℕ, ◌<◌}
+use Rattle.residue_sums.specs.Grids.{entry}
+use Rattle.structure_rules.specs.declared.Structure.TheVariants.{General}
+use Rattle.matrix_algebra.proofs.Lu.{lu_left}
+use Rattle.matrix_parts.specs.Lent.{grid_of, loan_of, IsPart, IsKept}
+use Rattle.kernel_lib.specs.ColumnFactors.{AreRowsFound}
+use Rattle.kernel_lib.proofs.lu_columns.find_lu_by_columns.Given as goal
+
+abbrev pub invariant-loop-j : goal.invariant-loop-j
+invariant-loop-j l = record {
+  loan : loan_of l.w ≡ loan_of l.fn.w;
+  part : IsPart l.w;
+  kept : IsKept l.fn.w l.w;
+  residues : (a b : ℕ) → a < l.fn.w.rows → b < l.fn.w.cols → entry (grid_of l.w) a b < l.m;
+  found : AreRowsFound l.m l.fn.w.rows General lu_left l.fn.w.rows 0 l.j (entry (grid_of l.fn.w)) (entry (grid_of l.w));
+}
