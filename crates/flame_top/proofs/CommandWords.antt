@@ -2,7 +2,7 @@
 use Rattle.std.proofs.Common.{◌≡◌, ℕ, ◌<◌, ◌≤◌, ◌^◌, List, [], ◌∷◌, slice_index_or, sym, ap, ◌∙◌, arith}
 use Rattle.std.specs.Fmt.{decimal}
 use Rattle.std.proofs.lemmas.Fmt.{decimal_injective}
-use Rattle.flame_top.specs.declared.command.Command.TheVariants.{Derive, Run}
+use Rattle.flame_top.specs.declared.command.Command.TheVariants.{Derive, Run, Verify}
 use Rattle.flame_top.specs.declared.command.RunWords.{RunWords}
 use Rattle.flame_top.specs.Words.{AreBad, AreRunWords}
 
@@ -10,6 +10,7 @@ use Rattle.flame_top.specs.Words.{AreBad, AreRunWords}
 pub bad_numbers : (block workers : List ℕ) → ((words : RunWords) → AreRunWords words → block ≡ decimal words.block → workers ≡ decimal words.workers → ⊥)
     → (first second third : List ℕ) → AreBad (first ∷ second ∷ block ∷ third ∷ workers ∷ [])
 bad_numbers block workers none first second third Derive named = absurd cc
+bad_numbers block workers none first second third Verify named = absurd cc
 bad_numbers block workers none first second third (Run words) named =
     none words named.0 (ap (λ (l : List (List ℕ)). slice_index_or l 2 []) named.1) (ap (λ (l : List (List ℕ)). slice_index_or l 4 []) named.1)
 

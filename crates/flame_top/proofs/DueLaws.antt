@@ -1,22 +1,20 @@
 -- For the same words and input one status and one text are due.
-use Rattle.std.proofs.Common.{◌≡◌, inl, inr, ℕ, ◌+◌, List, Result, Err, sym, ◌∙◌, subst, arith}
+use Rattle.std.proofs.Common.{◌≡◌, ◌≢◌, inl, inr, ℕ, ◌<◌, List, [], Result, Err, slice_index_or, sym, ap, ◌∙◌, subst, arith}
 use Rattle.std.specs.Prelude.{codes}
-use Rattle.equation.proofs.AssignedMeanings.{one_outcome}
+use Rattle.equation.proofs.JobMeanings.{never_both, one_bad_pivot, one_meaning}
 use Rattle.job_text.proofs.OneJob.{no_fault, one_job}
 use Rattle.equation.specs.declared.job.Job.{Job}
-use Rattle.equation.specs.Meanings.{IsAssignment}
+use Rattle.equation.specs.Jobs.{IsJob}
 use Rattle.job_text.specs.declared.fault.JobFault.{JobFault}
 use Rattle.job_text.specs.declared.stop.Stop.TheVariants.{Nothing}
 use Rattle.job_text.specs.SpelledJobs.{job_in}
 use Rattle.variant_report.specs.ResultTexts.{result_text}
 use Rattle.flame_top.specs.declared.command.Command.{Command}
-use Rattle.flame_top.specs.declared.command.Command.TheVariants.{Derive, Run}
-use Rattle.flame_top.specs.declared.fault.StageFault.TheVariants as stages
-use Rattle.flame_top.specs.Refusals.{refusal_text, stage_text}
-use Rattle.flame_top.specs.Stages.{IsGeneralAssignment}
+use Rattle.flame_top.specs.declared.command.Command.TheVariants.{Derive, Run, Verify}
+use Rattle.flame_top.specs.Refusals.{bad_pivot_text, refusal_text}
 use Rattle.flame_top.specs.Words.{words_of}
-use Rattle.flame_top.specs.Due.{Says, DueRun, DueFamilies, DueJob, DueShort, DueCommand, Due, families_text}
-use Rattle.flame_top.proofs.FirstWithout.{none_without, one_place, one_item}
+use Rattle.flame_top.specs.Due.{Says, DueRun, DueFamilies, DueInput, DueShort, DueCommand, Due, families_text}
+use Rattle.flame_top.proofs.VerifyLaws.{same_verify}
 
 -- one status and one text
 abbrev Same : ℕ → ℕ → List ℕ → List ℕ → Type 0
@@ -27,33 +25,19 @@ same_says due_status due_text status other text different says says_other = (say
 
 -- ---- for a job
 
-same_run : (job : Job) (status other : ℕ) (text different : List ℕ) → DueRun job status text → DueRun job other different → Same status other text different
-same_run job status other text different (inl due) (inl due_other) =
-    let one = one_outcome job job.statements job.matrices due.1 due_other.1 due.0 due.2 due_other.2 in
-    same_says 0 (result_text job due_other.1) status other text different (subst (λ after. Says 0 (result_text job after) status text) one due.3) due_other.3
-same_run job status other text different (inl due) (inr refused) = absurd (none_without (IsAssignment job) job.statements refused.0 refused.1 due.0 refused.2)
-same_run job status other text different (inr refused) (inl due) = absurd (none_without (IsAssignment job) job.statements refused.0 refused.1 due.0 refused.2)
-same_run job status other text different (inr refused) (inr refused_other) =
-    let one = one_place (IsAssignment job) job.statements refused.0 refused_other.0 refused.1 refused_other.1 refused.2 refused_other.2 in
-    same_says 3 (stage_text (stages.Statement (refused_other.0 + 1))) status other text different
-    (subst (λ at. Says 3 (stage_text (stages.Statement (at + 1))) status text) one refused.3) refused_other.3
+same_run : (job : Job) → IsJob job → (status other : ℕ) (text different : List ℕ) → DueRun job status text → DueRun job other different → Same status other text different
+same_run job valid status other text different (inl due) (inl due_other) =
+    let one = one_meaning job valid due.0 due_other.0 due.1 due_other.1 in
+    same_says 0 (result_text job due_other.0) status other text different (subst (λ after. Says 0 (result_text job after) status text) one due.2) due_other.2
+same_run job valid status other text different (inl due) (inr bad) = absurd (never_both job valid due.0 bad.0 bad.1 due.1 bad.2)
+same_run job valid status other text different (inr bad) (inl due) = absurd (never_both job valid due.0 bad.0 bad.1 due.1 bad.2)
+same_run job valid status other text different (inr bad) (inr bad_other) =
+    let one = one_bad_pivot job valid bad.0 bad_other.0 bad.1 bad_other.1 bad.2 bad_other.2 in
+    same_says 4 (bad_pivot_text bad_other.0 bad_other.1) status other text different
+    (subst (λ place. Says 4 (bad_pivot_text bad_other.0 place) status text) one.1 (subst (λ number. Says 4 (bad_pivot_text number bad.1) status text) one.0 bad.3)) bad_other.3
 
 same_families : (job : Job) (status other : ℕ) (text different : List ℕ) → DueFamilies job status text → DueFamilies job other different → Same status other text different
-same_families job status other text different (inl due) (inl due_other) = same_says 0 (families_text job.operations) status other text different due.1 due_other.1
-same_families job status other text different (inl due) (inr refused) = absurd (none_without IsGeneralAssignment job.operations refused.0 refused.1 due.0 refused.2)
-same_families job status other text different (inr refused) (inl due) = absurd (none_without IsGeneralAssignment job.operations refused.0 refused.1 due.0 refused.2)
-same_families job status other text different (inr refused) (inr refused_other) =
-    let one = one_item IsGeneralAssignment job.operations refused.0 refused_other.0 refused.1 refused_other.1 refused.2 refused_other.2 in
-    same_says 3 (stage_text (stages.Operation refused_other.1.name)) status other text different
-    (subst (λ op. Says 3 (stage_text (stages.Operation op.name)) status text) one refused.3) refused_other.3
-
--- two commands with the same words are due the same
-same_job : (command named : Command) → words_of command ≡ words_of named → (job : Job) (status other : ℕ) (text different : List ℕ)
-    → DueJob command job status text → DueJob named job other different → Same status other text different
-same_job Derive Derive words job status other text different due due_other = same_families job status other text different due due_other
-same_job Derive (Run numbers) words job status other text different due due_other = absurd cc
-same_job (Run numbers) Derive words job status other text different due due_other = absurd cc
-same_job (Run numbers) (Run numbers_other) words job status other text different due due_other = same_run job status other text different due due_other
+same_families job status other text different due due_other = same_says 0 (families_text job.operations) status other text different due due_other
 
 -- ---- for an input
 
@@ -63,23 +47,45 @@ one_error e f same = cc
 one_fault : (input : List ℕ) (fault other : JobFault) → job_in Nothing input ≡ Err fault → job_in Nothing input ≡ Err other → fault ≡ other
 one_fault input fault other is is_other = one_error fault other (sym is ∙ is_other)
 
-same_short : (command named : Command) → words_of command ≡ words_of named → (input : List ℕ) (status other : ℕ) (text different : List ℕ)
-    → DueShort command input status text → DueShort named input other different → Same status other text different
-same_short command named words input status other text different (inl due) (inl due_other) =
-    let one = (one_job input Nothing due.0 due.1 due.2 due_other.0 due_other.1 due_other.2).0 in
-    same_job command named words due_other.0 status other text different (subst (λ job. DueJob command job status text) one due.3) due_other.3
-same_short command named words input status other text different (inl due) (inr refused) = absurd (no_fault input Nothing due.0 due.1 due.2 refused.0 refused.2)
-same_short command named words input status other text different (inr refused) (inl due) = absurd (no_fault input Nothing due.0 due.1 due.2 refused.0 refused.2)
-same_short command named words input status other text different (inr refused) (inr refused_other) =
+-- for a command that reads a job alone
+same_short : (due : Job → ℕ → List ℕ → Type 0)
+    → ((job : Job) → IsJob job → (status other : ℕ) (text different : List ℕ) → due job status text → due job other different → Same status other text different)
+    → (input : List ℕ) (status other : ℕ) (text different : List ℕ) → DueShort due input status text → DueShort due input other different → Same status other text different
+same_short due same_job input status other text different (inl is) (inl is_other) =
+    let one = (one_job input Nothing is.0 is.1 is.2 is_other.0 is_other.1 is_other.2).0 in
+    same_job is_other.0 is_other.2.first.lines.valid status other text different (subst (λ job. due job status text) one is.3) is_other.3
+same_short due same_job input status other text different (inl is) (inr refused) = absurd (no_fault input Nothing is.0 is.1 is.2 refused.0 refused.2)
+same_short due same_job input status other text different (inr refused) (inl is) = absurd (no_fault input Nothing is.0 is.1 is.2 refused.0 refused.2)
+same_short due same_job input status other text different (inr refused) (inr refused_other) =
     let one = one_fault input refused.0 refused_other.0 refused.2 refused_other.2 in
     same_says 3 (refusal_text refused_other.0) status other text different (subst (λ fault. Says 3 (refusal_text fault) status text) one refused.3) refused_other.3
+
+less_differs : (x y : ℕ) → x < y → x ≢ y
+less_differs x y less same = omega arith
+
+-- the words begin with another letter
+derive_is_not_verify : words_of Derive ≢ words_of Verify
+derive_is_not_verify same = less_differs 100 118 (omega arith) (ap (λ (words : List (List ℕ)). slice_index_or (slice_index_or words 0 []) 0 0) same)
+
+-- two commands with the same words are due the same
+same_input : (command named : Command) → words_of command ≡ words_of named → (input : List ℕ) (status other : ℕ) (text different : List ℕ)
+    → DueInput command input status text → DueInput named input other different → Same status other text different
+same_input Derive Derive words input status other text different due due_other = same_short DueFamilies (λ job valid. same_families job) input status other text different due due_other
+same_input Verify Verify words input status other text different due due_other = same_verify input status other text different due due_other
+same_input (Run numbers) (Run numbers_other) words input status other text different due due_other = same_short DueRun same_run input status other text different due due_other
+same_input Derive Verify words input status other text different due due_other = absurd (derive_is_not_verify words)
+same_input Derive (Run numbers) words input status other text different due due_other = absurd cc
+same_input Verify Derive words input status other text different due due_other = absurd (derive_is_not_verify (sym words))
+same_input Verify (Run numbers) words input status other text different due due_other = absurd cc
+same_input (Run numbers) Derive words input status other text different due due_other = absurd cc
+same_input (Run numbers) Verify words input status other text different due due_other = absurd cc
 
 same_command : (command named : Command) → words_of command ≡ words_of named → (input : List ℕ) (status other : ℕ) (text different : List ℕ)
     → DueCommand command input status text → DueCommand named input other different → Same status other text different
 same_command command named words input status other text different (inl long) (inl long_other) = same_says 3 (codes "refused TooLong\n") status other text different long.1 long_other.1
 same_command command named words input status other text different (inl long) (inr short) = let a = long.0 in let b = short.0 in absurd (omega arith)
 same_command command named words input status other text different (inr short) (inl long) = let a = long.0 in let b = short.0 in absurd (omega arith)
-same_command command named words input status other text different (inr short) (inr short_other) = same_short command named words input status other text different short.1 short_other.1
+same_command command named words input status other text different (inr short) (inr short_other) = same_input command named words input status other text different short.1 short_other.1
 
 pub same_due : (words : List (List ℕ)) (input : List ℕ) (status other : ℕ) (text different : List ℕ) → Due words input status text → Due words input other different → (status ≡ other) × (text ≡ different)
 same_due words input status other text different (inl bad) (inl bad_other) = same_says 2 (codes "bad words\n") status other text different bad.1 bad_other.1

@@ -3,9 +3,10 @@ use Rattle.std.proofs.Common.{◌≡◌, inl, inr, ℕ, List, refl, arith}
 use Rattle.std.specs.Prelude.{codes}
 use Rattle.equation.specs.declared.job.Job.{Job}
 use Rattle.flame_top.specs.declared.command.Command.{Command}
-use Rattle.flame_top.specs.declared.command.Command.TheVariants.{Derive, Run}
+use Rattle.flame_top.specs.declared.command.Command.TheVariants.{Derive, Run, Verify}
 use Rattle.flame_top.specs.Words.{AreBad}
-use Rattle.flame_top.specs.Due.{Due, DueJob, DueCommand}
+use Rattle.flame_top.specs.Due.{Due, DueCommand, DueFamilies, DueInput, DueRun, DueShort}
+use Rattle.flame_top.specs.Verify.{DueVerify}
 use Rattle.flame_top.specs.Answers.{IsDueStatus}
 
 zero_is_due : (status : ℕ) → status ≡ 0 → IsDueStatus status
@@ -14,16 +15,39 @@ zero_is_due status is = (λ e. omega arith, λ e. omega arith, λ e. omega arith
 refusal_is_due : (status : ℕ) → status ≡ 3 → IsDueStatus status
 refusal_is_due status is = (λ e. omega arith, λ e. omega arith, λ e. omega arith)
 
-job_is_due : (command : Command) (job : Job) (status : ℕ) (text : List ℕ) → DueJob command job status text → IsDueStatus status
-job_is_due Derive job status text (inl families) = zero_is_due status families.1.0
-job_is_due Derive job status text (inr refused) = refusal_is_due status refused.3.0
-job_is_due (Run words) job status text (inl result) = zero_is_due status result.3.0
-job_is_due (Run words) job status text (inr refused) = refusal_is_due status refused.3.0
+bad_pivot_is_due : (status : ℕ) → status ≡ 4 → IsDueStatus status
+bad_pivot_is_due status is = (λ e. omega arith, λ e. omega arith, λ e. omega arith)
+
+difference_is_due : (status : ℕ) → status ≡ 8 → IsDueStatus status
+difference_is_due status is = (λ e. omega arith, λ e. omega arith, λ e. omega arith)
+
+-- for a command that reads a job alone
+short_is_due : (due : Job → ℕ → List ℕ → Type 0) → ((job : Job) (status : ℕ) (text : List ℕ) → due job status text → IsDueStatus status)
+    → (input : List ℕ) (status : ℕ) (text : List ℕ) → DueShort due input status text → IsDueStatus status
+short_is_due due of_job input status text (inl spelled) = of_job spelled.0 status text spelled.3
+short_is_due due of_job input status text (inr fault) = refusal_is_due status fault.3.0
+
+families_are_due : (job : Job) (status : ℕ) (text : List ℕ) → DueFamilies job status text → IsDueStatus status
+families_are_due job status text families = zero_is_due status families.0
+
+run_is_due : (job : Job) (status : ℕ) (text : List ℕ) → DueRun job status text → IsDueStatus status
+run_is_due job status text (inl result) = zero_is_due status result.2.0
+run_is_due job status text (inr bad) = bad_pivot_is_due status bad.3.0
+
+verify_is_due : (input : List ℕ) (status : ℕ) (text : List ℕ) → DueVerify input status text → IsDueStatus status
+verify_is_due input status text (inl (job, rest, spells, inl (after, spelled, inl all))) = zero_is_due status all.1
+verify_is_due input status text (inl (job, rest, spells, inl (after, spelled, inr differs))) = difference_is_due status differs.4
+verify_is_due input status text (inl (job, rest, spells, inr fault)) = refusal_is_due status fault.3
+verify_is_due input status text (inr fault) = refusal_is_due status fault.3
+
+input_is_due : (command : Command) (input : List ℕ) (status : ℕ) (text : List ℕ) → DueInput command input status text → IsDueStatus status
+input_is_due Derive input status text due = short_is_due DueFamilies families_are_due input status text due
+input_is_due Verify input status text due = verify_is_due input status text due
+input_is_due (Run words) input status text due = short_is_due DueRun run_is_due input status text due
 
 pub command_is_due : (command : Command) (input : List ℕ) (status : ℕ) (text : List ℕ) → DueCommand command input status text → IsDueStatus status
 command_is_due command input status text (inl long) = refusal_is_due status long.1.0
-command_is_due command input status text (inr (short, inl spelled)) = job_is_due command spelled.0 status text spelled.3
-command_is_due command input status text (inr (short, inr fault)) = refusal_is_due status fault.3.0
+command_is_due command input status text (inr short) = input_is_due command input status text short.1
 
 -- what is due for bad words
 pub bad_is_due : (words : List (List ℕ)) (input text : List ℕ) → AreBad words → text ≡ codes "bad words\n" → Due words input 2 text

@@ -2,9 +2,11 @@ mod Answering
 mod CommandWords
 mod DueLaws
 mod DueStatuses
-mod FirstWithout
 mod FiveItems
+mod JoinedTexts
 mod NamedCommands
 mod SomethingDue
+mod VerifiedStatements
+mod VerifyLaws
 mod WordNumbers
 mod WorkedRows

@@ -6,7 +6,7 @@ use Rattle.std.proofs.lemmas.Bool.{cases_eq, cases_lt}
 use Rattle.std.proofs.lemmas.Bool.Decides.{not_from_Decides}
 use Rattle.std.proofs.lemmas.Slice.Eq.{bytes_eq-Decides}
 use Rattle.flame_top.specs.declared.command.Command.{Command}
-use Rattle.flame_top.specs.declared.command.Command.TheVariants.{Derive, Run}
+use Rattle.flame_top.specs.declared.command.Command.TheVariants.{Derive, Run, Verify}
 use Rattle.flame_top.specs.declared.command.RunWords.{RunWords}
 use Rattle.flame_top.specs.Words.{AreBad, AreRunWords, AreWordsOf, words_of}
 use Rattle.flame_top.proofs.CommandWords.{bad_numbers, out_of_range}
@@ -28,17 +28,20 @@ same_or_other word other = go (bytes_eq word other) refl
 -- as many as no command has
 bad_count : (words : List (List ℕ)) → length words ≢ 1 → length words ≢ 5 → AreBad words
 bad_count words not_one not_five Derive named = not_one (ap length named.1)
+bad_count words not_one not_five Verify named = not_one (ap length named.1)
 bad_count words not_one not_five (Run numbers) named = not_five (ap length named.1)
 
--- one word that isn't that of families
-bad_derive : (word : List ℕ) → word ≢ codes "derive" → AreBad (word ∷ [])
-bad_derive word other Derive named = other (ap (λ (l : List (List ℕ)). slice_index_or l 0 []) named.1)
-bad_derive word other (Run numbers) named = absurd cc
+-- one word that is neither that of families nor that of a check
+bad_one : (word : List ℕ) → word ≢ codes "derive" → word ≢ codes "verify" → AreBad (word ∷ [])
+bad_one word no_derive no_verify Derive named = no_derive (ap (λ (l : List (List ℕ)). slice_index_or l 0 []) named.1)
+bad_one word no_derive no_verify Verify named = no_verify (ap (λ (l : List (List ℕ)). slice_index_or l 0 []) named.1)
+bad_one word no_derive no_verify (Run numbers) named = absurd cc
 
 -- more words than one, of which one is another than that of a run
 bad_word : (words : List (List ℕ)) (at : ℕ) → 1 < length words
     → ((numbers : RunWords) → slice_index_or words at [] ≢ slice_index_or (words_of (Run numbers)) at []) → AreBad words
 bad_word words at more other Derive named = let one : length words ≡ 1 = ap length named.1 in absurd (omega arith)
+bad_word words at more other Verify named = let one : length words ≡ 1 = ap length named.1 in absurd (omega arith)
 bad_word words at more other (Run numbers) named = other numbers (ap (λ (l : List (List ℕ)). slice_index_or l at []) named.1)
 
 -- ---- the numbers of a run
@@ -78,12 +81,13 @@ numbers_or_none block workers = go (number_or_none block) (number_or_none worker
 
 -- ---- all words
 
-derive_or_bad : (word : List ℕ) → BadOrNamed (word ∷ [])
-derive_or_bad word = go (same_or_other word (codes "derive"))
+one_or_bad : (word : List ℕ) → BadOrNamed (word ∷ [])
+one_or_bad word = go (same_or_other word (codes "derive")) (same_or_other word (codes "verify"))
   where
-    go : (word ≡ codes "derive") ⊎ (word ≢ codes "derive") → BadOrNamed (word ∷ [])
-    go (inl same) = inr (Derive, (tt, ap (λ (w : List ℕ). w ∷ []) same))
-    go (inr other) = inl (bad_derive word other)
+    go : (word ≡ codes "derive") ⊎ (word ≢ codes "derive") → (word ≡ codes "verify") ⊎ (word ≢ codes "verify") → BadOrNamed (word ∷ [])
+    go (inl same) b = inr (Derive, (tt, ap (λ (w : List ℕ). w ∷ []) same))
+    go (inr other) (inl same) = inr (Verify, (tt, ap (λ (w : List ℕ). w ∷ []) same))
+    go (inr no_derive) (inr no_verify) = inl (bad_one word no_derive no_verify)
 
 run_or_bad : (first second block third workers : List ℕ) → BadOrNamed (first ∷ second ∷ block ∷ third ∷ workers ∷ [])
 run_or_bad first second block third workers =
@@ -103,7 +107,7 @@ run_or_bad first second block third workers =
 
 pub bad_or_named : (words : List (List ℕ)) → AreBad words ⊎ ((command : Command) × AreWordsOf words command)
 bad_or_named [] = inl (bad_count [] (λ e. absurd (omega arith)) (λ e. absurd (omega arith)))
-bad_or_named (a ∷ []) = derive_or_bad a
+bad_or_named (a ∷ []) = one_or_bad a
 bad_or_named (a ∷ b ∷ []) = inl (bad_count (a ∷ b ∷ []) (λ e. absurd (omega arith)) (λ e. absurd (omega arith)))
 bad_or_named (a ∷ b ∷ c ∷ []) = inl (bad_count (a ∷ b ∷ c ∷ []) (λ e. absurd (omega arith)) (λ e. absurd (omega arith)))
 bad_or_named (a ∷ b ∷ c ∷ d ∷ []) = inl (bad_count (a ∷ b ∷ c ∷ d ∷ []) (λ e. absurd (omega arith)) (λ e. absurd (omega arith)))

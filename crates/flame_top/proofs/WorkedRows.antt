@@ -1,15 +1,17 @@
 -- The definitions, computed on small rows that were worked by hand.
-use Rattle.std.proofs.Common.{◌≡◌, [], ◌∷◌, refl}
-use Rattle.std.specs.Prelude.{codes, false}
+use Rattle.std.proofs.Common.{◌≡◌, [], ◌∷◌, ◌++◌, take, drop, refl}
+use Rattle.std.specs.Prelude.{codes}
 use Rattle.std.specs.Fmt.{digits}
 use Rattle.structure_rules.specs.declared.Structure.TheVariants.{General}
 use Rattle.operation_spec.specs.declared.operation.Operation.{Operation}
 use Rattle.operation_spec.specs.declared.operation.Form.TheVariants.{Assign}
+use Rattle.operation_spec.proofs.WorkedOperations.{lu, low}
+use Rattle.invariant_family.specs.Families.{family_of}
+use Rattle.variant_report.specs.FamilyTexts.{variant_lines}
 use Rattle.job_text.specs.declared.fault.JobFault.TheVariants as faults
 use Rattle.flame_top.specs.declared.command.Command.TheVariants.{Run}
-use Rattle.flame_top.specs.declared.fault.StageFault.TheVariants as stages
 use Rattle.flame_top.specs.Due.{families_text}
-use Rattle.flame_top.specs.Refusals.{refusal_text, stage_text}
+use Rattle.flame_top.specs.Refusals.{bad_pivot_text, refusal_text}
 use Rattle.flame_top.specs.Words.{words_of}
 
 spelled_words : words_of (Run (record { block = 1024; workers = 1 })) ≡ codes "run" ∷ codes "--block" ∷ codes "1024" ∷ codes "--workers" ∷ codes "1" ∷ []
@@ -20,23 +22,9 @@ refused_line : refusal_text (faults.Alias 13) ≡ codes "refused Alias line 13\n
 unfolding digits
 refused_line = refl
 
-refused_statement : stage_text (stages.Statement 2) ≡ codes "refused NotBuilt statement 2\n"
+named_pivot : bad_pivot_text 2 (record { row = 10; col = 0 }) ≡ codes "no inverse statement 2 row 10 column 0\n"
 unfolding digits
-refused_statement = refl
-
-refused_operation : stage_text (stages.Operation (codes "lu")) ≡ codes "refused NotBuilt operation lu\n"
-refused_operation = refl
-
--- `X = W + A * B` of general matrices
-product : Operation
-product = record {
-  name = codes "mul";
-  dims = codes "m" ∷ codes "n" ∷ codes "k" ∷ [];
-  work = record { name = codes "W"; structure = General; rows = 0; cols = 1 };
-  knowns = record { name = codes "A"; structure = General; rows = 0; cols = 2 } ∷ record { name = codes "B"; structure = General; rows = 2; cols = 1 } ∷ [];
-  form = Assign;
-  terms = record { minus = false; first = record { known = 0; primed = false }; second = record { known = 1; primed = false } } ∷ [];
-}
+named_pivot = refl
 
 -- `X = W` of general matrices, whose loops have one task for each block and nothing to do
 same : Operation
@@ -49,8 +37,14 @@ same = record {
   terms = [];
 }
 
--- the families of two operations, along single dimensions
-printed_families : families_text (product ∷ same ∷ [])
-    ≡ codes "operation mul\nvariants 6\n1 split m forward : term1(0,0,0)\n2 split m backward : term1(1,0,0)\n3 split n forward : term1(0,0,0)\n4 split n backward : term1(0,1,0)\n5 split k forward : term1(0,0,0)\n6 split k backward : term1(0,0,1)\noperation same\nvariants 2\n1 split r forward :\n2 split r backward :\n"
-unfolding digits product same
+-- the families of two operations
+printed_families : families_text (lu ∷ same ∷ [])
+    ≡ codes "operation lu\nvariants 5\n1 split n forward : solve(0,0)\n2 split n forward : solve(0,0) solve(0,1)\n3 split n forward : solve(0,0) solve(1,0)\n4 split n forward : solve(0,0) solve(0,1) solve(1,0)\n5 split n forward : solve(0,0) solve(0,1) solve(1,0) left(1,1,0)\noperation same\nvariants 2\n1 split r forward :\n2 split r backward :\n"
+unfolding digits lu same
 printed_families = refl
+
+-- the first five lines of a family along two dimensions, and its last two
+printed_lines : variant_lines low (take 5 (family_of low) ++ drop 20 (family_of low))
+    ≡ codes "1 split n forward : solve(0,0)\n2 split n forward : solve(0,0) left(1,0,0)\n3 split m forward : solve(0,0)\n4 split m backward : solve(0,1)\n5 split n forward m forward : solve(0,0)\n21 split n backward m forward : solve(0,0) left(1,0,0) solve(1,0)\n22 split n backward m backward : solve(0,1) left(1,1,0) solve(1,1)\n"
+unfolding digits low
+printed_lines = refl

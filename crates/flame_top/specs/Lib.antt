@@ -1,5 +1,5 @@
 pub mod Answers
 pub mod Due
 pub mod Refusals
-pub mod Stages
+pub mod Verify
 pub mod Words

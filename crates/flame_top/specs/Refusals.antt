@@ -1,9 +1,8 @@
--- What is printed of a refused input.
+-- What is printed of a refused input, and of a job that meets a bad pivot.
 use Rattle.std.specs.Prelude.{ℕ, List, [], ◌++◌, codes, decimal}
 use Rattle.job_text.specs.declared.fault.JobFault.{JobFault}
 use Rattle.job_text.specs.declared.fault.JobFault.TheVariants.{Memory, BadByte, Header, TrailingText, Syntax, Modulus, Limit, NameTwice, NameUnknown, TooManyTerms, Shape, Form, TooLarge, RowLength, EntryRange, Binding, Alias}
-use Rattle.flame_top.specs.declared.fault.StageFault.{StageFault}
-use Rattle.flame_top.specs.declared.fault.StageFault.TheVariants.{Statement, Operation}
+use Rattle.equation.specs.declared.job.Place.{Place}
 
 -- the kind of a fault and its line
 abbrev pub kind_at : List ℕ → ℕ → List ℕ
@@ -29,7 +28,7 @@ refusal_text (EntryRange line) = kind_at (codes "EntryRange") line
 refusal_text (Binding line) = kind_at (codes "Binding") line
 refusal_text (Alias line) = kind_at (codes "Alias") line
 
--- what isn't built so far: a statement by its number, an operation by its name
-abbrev pub stage_text : StageFault → List ℕ
-stage_text (Statement number) = codes "refused NotBuilt statement " ++ decimal number ++ codes "\n"
-stage_text (Operation name) = codes "refused NotBuilt operation " ++ name ++ codes "\n"
+-- the first bad pivot of a job: the statement, numbered from 1, with the row and the column, numbered from 0
+abbrev pub bad_pivot_text : ℕ → Place → List ℕ
+bad_pivot_text number place =
+    codes "no inverse statement " ++ decimal number ++ codes " row " ++ decimal place.row ++ codes " column " ++ decimal place.col ++ codes "\n"

@@ -6,13 +6,14 @@ ghost use Rattle.flame_top.specs.Answers.{Answers, state_of};
 
 use crate::command::{Command, read_words};
 use crate::run::{deliver, derive_cmd, run_one_cmd};
+use crate::verify::verify_cmd;
 use outside_io::{Gate, Sink, Source};
 use std::alloc::{AllocError, Global};
 
 /// Does all that the program does, and answers its status. The words are those after the program's name.
 ///
 /// - 2 comes with `bad words` where the words name no command; the source is then as it was.
-/// - Else the status is that of the command's call: `derive_cmd` or `run_one_cmd`.
+/// - Else the status is that of the command's call: `derive_cmd`, `verify_cmd` or `run_one_cmd`.
 pub fn top<R: Sync, S: Source, K: Sink, G: Gate>(
     _rt: &R,
     alloc: Global,
@@ -32,6 +33,7 @@ pub fn top<R: Sync, S: Source, K: Sink, G: Gate>(
         Ok(None) => deliver(sink, 2, b"bad words\n"),
         Ok(Some(command)) => match command {
             Command::Derive => derive_cmd(alloc, &command, source, sink),
+            Command::Verify => verify_cmd(alloc, &command, source, sink),
             Command::Run { words: _ } => run_one_cmd(alloc, &command, source, sink),
         },
         Err(AllocError) => 5,

@@ -19,6 +19,8 @@ pub struct RunWords {
 pub enum Command {
     /// `derive`: prints the family of each operation of the input's job.
     Derive,
+    /// `verify`: checks the matrices behind the input's job.
+    Verify,
     /// `run --block B --workers K`: runs the job of the input.
     Run { words: RunWords },
 }
@@ -66,11 +68,13 @@ fn run_of(
     Some(Command::Run { words })
 }
 
-fn derive_of(derive: &str) -> Option<Command>
-    ensures { MatchOption result (AreBad (derive.now ∷ [])) (AreWordsOf (derive.now ∷ [])) }
+fn one_word_of(word: &str) -> Option<Command>
+    ensures { MatchOption result (AreBad (word.now ∷ [])) (AreWordsOf (word.now ∷ [])) }
 {
-    if derive == "derive" {
+    if word == "derive" {
         Some(Command::Derive)
+    } else if word == "verify" {
+        Some(Command::Verify)
     } else {
         None
     }
@@ -80,7 +84,7 @@ fn command_of(words: &[String]) -> Option<Command>
     ensures { MatchOption result (AreBad (map string_bytes words.now)) (AreWordsOf (map string_bytes words.now)) }
 {
     match words {
-        [derive] => derive_of(derive.as_str()),
+        [word] => one_word_of(word.as_str()),
         [run, block_word, block, workers_word, workers] => run_of(
             run.as_str(),
             block_word.as_str(),

@@ -3,12 +3,13 @@
 ghost use Rattle.std.specs.Prelude.{◌≡◌, ◌≢◌, ◌≤◌, List, ℕ, length, IfOk, IsErrOf, codes};
 ghost use Rattle.std.specs.Io.KnownBytes.{Consumes, IsAtEnd};
 ghost use Rattle.outside_io.specs.Causes.{Rose};
-ghost use Rattle.flame_top.specs.Due.{DueShort, DueCommand};
+ghost use Rattle.flame_top.specs.Due.{DueCommand, DueFamilies, DueInput, DueRun, DueShort};
 ghost use Rattle.flame_top.specs.Answers.{DueFrom};
 ghost use Rattle.flame_top.specs.declared.output.Halt.TheVariants.{Memory};
 
 use crate::command::Command;
-use crate::report::{Output, fault_output, job_output};
+use crate::report::{Output, families_output, fault_output, run_output};
+use crate::verify::verify_output;
 use job_text::{JobFault, Stop, read_job};
 use outside_io::{ReadEnd, Source, read_all};
 use std::alloc::{AllocError, Global};
@@ -43,14 +44,38 @@ fn too_long(alloc: Global) -> Result<Output, AllocError>
     })
 }
 
-fn short_output(alloc: Global, command: Command, bytes: &[u8]) -> Result<Output, AllocError>
+/// The families of the job that the bytes spell.
+fn derive_output(alloc: Global, bytes: &[u8]) -> Result<Output, AllocError>
     requires { length bytes.now ≤ 67108864 }
-    ensures { IfOk result (λ output. DueShort command bytes.now output.status output.text.items) }
+    ensures { IfOk result (λ output. DueShort DueFamilies bytes.now output.status output.text.items) }
 {
     match read_job(alloc, bytes, Stop::Nothing) {
-        Ok((job, _)) => Ok(job_output(alloc, command, &job)?),
+        Ok((job, _)) => Ok(families_output(alloc, &job)?),
         Err(JobFault::Memory) => Err(AllocError),
         Err(fault) => Ok(fault_output(alloc, fault)?),
+    }
+}
+
+/// A run of the job that the bytes spell.
+fn result_output(alloc: Global, bytes: &[u8]) -> Result<Output, AllocError>
+    requires { length bytes.now ≤ 67108864 }
+    ensures { IfOk result (λ output. DueShort DueRun bytes.now output.status output.text.items) }
+{
+    match read_job(alloc, bytes, Stop::Nothing) {
+        Ok((job, _)) => Ok(run_output(alloc, &job)?),
+        Err(JobFault::Memory) => Err(AllocError),
+        Err(fault) => Ok(fault_output(alloc, fault)?),
+    }
+}
+
+fn short_output(alloc: Global, command: Command, bytes: &[u8]) -> Result<Output, AllocError>
+    requires { length bytes.now ≤ 67108864 }
+    ensures { IfOk result (λ output. DueInput command bytes.now output.status output.text.items) }
+{
+    match command {
+        Command::Derive => Ok(derive_output(alloc, bytes)?),
+        Command::Verify => Ok(verify_output(alloc, bytes)?),
+        Command::Run { words: _ } => Ok(result_output(alloc, bytes)?),
     }
 }
 

@@ -1,13 +1,12 @@
-//! The texts of refusals.
+//! The texts of refusals, and of a bad pivot.
 
-ghost use Rattle.std.specs.Prelude.{◌≡◌, ◌++◌, codes, decimal, OnOk};
-ghost use Rattle.flame_top.specs.Refusals.{kind_at, refusal_text, stage_text};
+ghost use Rattle.std.specs.Prelude.{◌≡◌, ◌++◌, decimal, OnOk};
+ghost use Rattle.flame_top.specs.Refusals.{bad_pivot_text, kind_at, refusal_text};
 
-use crate::fault::StageFault;
 use byte_texts::put_decimal;
+use equation::Place;
 use job_text::JobFault;
 use std::alloc::AllocError;
-use text_scan::Name;
 
 /// Appends the kind of a fault and its line.
 fn put_kind(kind: &[u8], line: u32, out: &mut Vec<u8>) -> Result<(), AllocError>
@@ -46,32 +45,22 @@ pub fn put_refusal(fault: JobFault, out: &mut Vec<u8>) -> Result<(), AllocError>
     }
 }
 
-/// Appends the refusal of a statement by its number.
-fn put_statement(number: u32, out: &mut Vec<u8>) -> Result<(), AllocError>
-    ensures { OnOk result (out.new.items ≡ out.old.items ++ codes "refused NotBuilt statement " ++ decimal number ++ codes "\n") }
+/// Appends words and a number behind them.
+fn put_numbered(words: &[u8], number: u32, out: &mut Vec<u8>) -> Result<(), AllocError>
+    ensures { OnOk result (out.new.items ≡ out.old.items ++ (words.now ++ decimal number)) }
 {
-    out.extend_from_slice(b"refused NotBuilt statement ")?;
+    out.extend_from_slice(words)?;
     put_decimal(u64::from(number), out)?;
-    out.push(b'\n')?;
     Ok(())
 }
 
-/// Appends the refusal of an operation by its name.
-fn put_operation(name: &Name, out: &mut Vec<u8>) -> Result<(), AllocError>
-    ensures { OnOk result (out.new.items ≡ out.old.items ++ codes "refused NotBuilt operation " ++ name.now ++ codes "\n") }
+/// Appends what is printed of a job whose first bad pivot is met by this statement, numbered from 1, at this place.
+pub fn put_bad_pivot(statement: u32, place: Place, out: &mut Vec<u8>) -> Result<(), AllocError>
+    ensures { OnOk result (out.new.items ≡ out.old.items ++ bad_pivot_text statement place) }
 {
-    out.extend_from_slice(b"refused NotBuilt operation ")?;
-    out.extend_from_slice(name.as_slice())?;
+    put_numbered(b"no inverse statement ", statement, out)?;
+    put_numbered(b" row ", place.row, out)?;
+    put_numbered(b" column ", place.col, out)?;
     out.push(b'\n')?;
     Ok(())
-}
-
-/// Appends what is printed of a statement or an operation that isn't built.
-pub fn put_stage(fault: &StageFault, out: &mut Vec<u8>) -> Result<(), AllocError>
-    ensures { OnOk result (out.new.items ≡ out.old.items ++ stage_text fault.now) }
-{
-    match fault {
-        StageFault::Statement { number } => Ok(put_statement(*number, out)?),
-        StageFault::Operation { name } => Ok(put_operation(name, out)?),
-    }
 }

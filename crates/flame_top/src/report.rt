@@ -1,25 +1,22 @@
 //! The output that is due for a job.
 
-ghost use Rattle.std.specs.Prelude.{◌≡◌, ◌++◌, ◌≤◌, ◌<◌, length, All, IfOk, OnOk};
-ghost use Rattle.invariant_family.specs.Families.{single_family_of};
+ghost use Rattle.std.specs.Prelude.{◌≡◌, ◌++◌, IfOk, OnOk};
+ghost use Rattle.invariant_family.specs.Families.{family_of};
 ghost use Rattle.variant_report.specs.FamilyTexts.{family_text};
 ghost use Rattle.equation.specs.Jobs.{IsJob};
-ghost use Rattle.equation.specs.Meanings.{IsAssignment};
-ghost use Rattle.flame_top.specs.Refusals.{refusal_text, stage_text};
-ghost use Rattle.flame_top.specs.Due.{DueFamilies, DueJob, DueResult, DueRun, families_text};
+ghost use Rattle.equation.specs.Meanings.{Means, MeansBadPivot};
+ghost use Rattle.flame_top.specs.Refusals.{refusal_text};
+ghost use Rattle.flame_top.specs.Due.{DueFamilies, DueRun, families_text};
 
-use crate::command::Command;
-use crate::fault::StageFault;
-use crate::refusals::{put_refusal, put_stage};
-use crate::stages::{first_other_operation, first_other_statement};
-use equation::Job;
+use crate::refusals::{put_bad_pivot, put_refusal};
+use equation::{Job, Place};
 use invariant_family::family;
 use job_text::JobFault;
+use matrix_core::MatrixList;
 use operation_spec::Operation;
 use std::alloc::{AllocError, Global};
-use text_scan::Name;
 use variant_report::{write_family, write_result};
-use whole_statements::run_statements;
+use whole_statements::{Outcome, run_statements};
 
 /// A status and the whole text that goes with it.
 #[derive(Debug, Drop)]
@@ -37,46 +34,56 @@ pub fn fault_output(alloc: Global, fault: JobFault) -> Result<Output, AllocError
     Ok(Output { status: 3, text })
 }
 
-/// The refusal of what isn't built.
-fn stage_output(alloc: Global, fault: StageFault) -> Result<Output, AllocError>
-    ensures { IfOk result (λ output. (output.status ≡ 3) × (output.text.items ≡ stage_text fault)) }
-{
-    let mut text = Vec::new(alloc);
-    put_stage(&fault, &mut text)?;
-    Ok(Output { status: 3, text })
-}
-
 // ---- a run
 
-/// Does the statements of a job, and prints.
-fn result_output(alloc: Global, job: &Job) -> Result<Output, AllocError>
+/// Prints the matrices that a job means.
+fn result_output(alloc: Global, job: &Job, after: &MatrixList) -> Result<Output, AllocError>
     requires job { IsJob job.now }
-    requires assignments { All (IsAssignment job.now) job.now.statements }
-    ensures { IfOk result (λ output. DueResult job.now output.status output.text.items) }
+    requires means { Means job.now after.now }
+    ensures { IfOk result (λ output. DueRun job.now output.status output.text.items) }
 {
-    let matrices = run_statements(alloc, job)?;
     let mut text = Vec::new(alloc);
-    write_result(alloc, job, &matrices, &mut text)?;
+    write_result(alloc, job, after, &mut text)?;
     Ok(Output { status: 0, text })
 }
 
-fn run_output(alloc: Global, job: &Job) -> Result<Output, AllocError>
+/// Names the first bad pivot that a job means.
+fn bad_pivot_output(
+    alloc: Global,
+    job: &Job,
+    statement: u32,
+    place: Place,
+) -> Result<Output, AllocError>
+    requires { MeansBadPivot job.now statement place }
+    ensures { IfOk result (λ output. DueRun job.now output.status output.text.items) }
+{
+    let mut text = Vec::new(alloc);
+    put_bad_pivot(statement, place, &mut text)?;
+    Ok(Output { status: 4, text })
+}
+
+/// Does the statements of a job, and prints what they come to.
+pub fn run_output(alloc: Global, job: &Job) -> Result<Output, AllocError>
     requires job { IsJob job.now }
     ensures { IfOk result (λ output. DueRun job.now output.status output.text.items) }
 {
-    match first_other_statement(job) {
-        Some(at) => {
-            let number = at as u32 + 1;
-            Ok(stage_output(alloc, StageFault::Statement { number })?)
+    match run_statements(alloc, job)? {
+        Outcome::Done(after) => Ok(result_output(alloc, job, &after)?),
+        Outcome::BadPivot {
+            statement,
+            row,
+            col,
+        } => {
+            let place = Place { row, col };
+            Ok(bad_pivot_output(alloc, job, statement, place)?)
         }
-        None => Ok(result_output(alloc, job)?),
     }
 }
 
 // ---- families
 
 fn put_family(alloc: Global, op: &Operation, out: &mut Vec<u8>) -> Result<(), AllocError>
-    ensures { OnOk result (out.new.items ≡ out.old.items ++ family_text op.now (single_family_of op.now)) }
+    ensures { OnOk result (out.new.items ≡ out.old.items ++ family_text op.now (family_of op.now)) }
 {
     let variants = family(alloc, op)?;
     write_family(alloc, op, &variants, out)
@@ -95,29 +102,11 @@ fn put_families(
     Ok(())
 }
 
-fn families_output(alloc: Global, job: &Job) -> Result<Output, AllocError>
+/// The families of a job.
+pub fn families_output(alloc: Global, job: &Job) -> Result<Output, AllocError>
     ensures { IfOk result (λ output. DueFamilies job.now output.status output.text.items) }
 {
-    match first_other_operation(job.operations.as_slice()) {
-        Some(op) => {
-            let name = Name::from_vec(Vec::from_slice(alloc, op.name.as_slice())?);
-            Ok(stage_output(alloc, StageFault::Operation { name })?)
-        }
-        None => {
-            let mut text = Vec::new(alloc);
-            put_families(alloc, job.operations.as_slice(), &mut text)?;
-            Ok(Output { status: 0, text })
-        }
-    }
-}
-
-/// The output of a command for a job.
-pub fn job_output(alloc: Global, command: Command, job: &Job) -> Result<Output, AllocError>
-    requires job { IsJob job.now }
-    ensures { IfOk result (λ output. DueJob command job.now output.status output.text.items) }
-{
-    match command {
-        Command::Derive => Ok(families_output(alloc, job)?),
-        Command::Run { words: _ } => Ok(run_output(alloc, job)?),
-    }
+    let mut text = Vec::new(alloc);
+    put_families(alloc, job.operations.as_slice(), &mut text)?;
+    Ok(Output { status: 0, text })
 }

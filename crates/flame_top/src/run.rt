@@ -21,7 +21,7 @@ pub fn deliver<K: Sink>(sink: &mut K, status: u8, text: &[u8]) -> u8
 }
 
 /// Reads the source to its end, composes the output of the command, and writes it.
-fn answer_command<S: Source, K: Sink>(
+pub fn answer_command<S: Source, K: Sink>(
     alloc: Global,
     command: Command,
     source: &mut S,
@@ -44,9 +44,10 @@ fn answer_command<S: Source, K: Sink>(
 /// writes the matrices that the job prints. It answers the status.
 ///
 /// - 0 comes with the text of those matrices, in the order of the prints.
-/// - 3 comes with `refused TooLong` where the input has more than 67,108,864 bytes, with `refused KIND line L` where it
-///   is no text of a job, and with `refused NotBuilt statement S` where S is the first statement whose operation isn't
-///   of the form `X = R`.
+/// - 3 comes with `refused TooLong` where the input has more than 67,108,864 bytes, and with `refused KIND line L` where it
+///   is no text of a job.
+/// - 4 comes with `no inverse statement S row R column C` where the first pivot without an inverse is met by statement S,
+///   numbered from 1, in row R and column C, numbered from 0.
 /// - 1 comes only where the source failed, and 5 where memory ran out; nothing is written.
 /// - 6 comes only where the sink failed, behind a front of the text that is due.
 pub fn run_one_cmd<S: Source, K: Sink>(
@@ -66,8 +67,7 @@ pub fn run_one_cmd<S: Source, K: Sink>(
 }
 
 /// Prints the family of loop invariants of each operation of the job: reads the source to its end, derives, and writes
-/// one line for each variant. It answers the status, whose causes are those of `run_one_cmd`, but that 3 comes with
-/// `refused NotBuilt operation NAME` where NAME is the first operation that isn't `X = R` of general operands.
+/// one line for each variant. It answers the status, whose causes are those of `run_one_cmd`, but that 4 never comes.
 pub fn derive_cmd<S: Source, K: Sink>(
     alloc: Global,
     command: &Command,

@@ -1,4 +1,7 @@
 use super::*;
+use invariant_family::variant_at;
+use job_text::{Stop, read_job};
+use operation_spec::Operation;
 use outside_io::{MemSink, MemSource, OpenGate};
 use std::alloc::{AllocError, Global};
 use std::test::Fail;
@@ -14,6 +17,23 @@ const SQR: &str =
     "operation sqr\ndims n k\nwork W lower n n\nknown A general n k\nequation X = W + A * A'\nend\n";
 
 const LU: &str = "operation lu\ndims n\nwork W general n n\nequation lu X = W\nend\n";
+
+const LDL: &str = "operation ldl\ndims n\nwork W lower n n\nequation ldl X = W\nend\n";
+
+const LOW: &str =
+    "operation low\ndims n m\nwork W general n m\nknown T lower n n\nequation T * X = W\nend\n";
+
+const ULOW: &str =
+    "operation ulow\ndims n m\nwork W general n m\nknown T unitlower n n\nequation T * X = W\nend\n";
+
+const UPP: &str =
+    "operation upp\ndims n m\nwork W general n m\nknown U upper n n\nequation U * X = W\nend\n";
+
+const INV: &str =
+    "operation inv\ndims n\nwork W lower n n\nknown T lower n n\nequation T * X = W\nend\n";
+
+const SYL: &str =
+    "operation syl\ndims n m\nwork W general n m\nknown T lower n n\nknown U upper m m\nequation T * X + X * U = W\nend\n";
 
 const SMALL: &str = "matrix W 1 1\n1\nend\nmatrix A 1 1\n2\nend\nmatrix B 1 1\n3\nend\n";
 
@@ -82,14 +102,14 @@ fn answered(
 ) -> Result<Answer, AllocError> {
     let words = words_of(alloc, words)?;
     let mut source = MemSource::new(input, 16, Vec::from_slice(alloc, source_fails)?);
-    let mut sink = MemSink::new(alloc, 1000, 8, Vec::from_slice(alloc, sink_fails)?)?;
+    let mut sink = MemSink::new(alloc, 6000, 8, Vec::from_slice(alloc, sink_fails)?)?;
     let status = top(&(), alloc, &words, &mut source, &mut sink, &OpenGate);
     let text = Vec::from_slice(alloc, sink.bytes())?;
     Ok(Answer { status, text })
 }
 
 /// Jobs, each a text in parts, and what a run of it prints.
-const JOBS: [(&[&str], &str); 8] = [
+const JOBS: [(&[&str], &str); 10] = [
     (&[HEAD, MUL, SMALL, TAIL], "matrix W 1 1\n0\nend\n"),
     (
         &[
@@ -144,6 +164,32 @@ const JOBS: [(&[&str], &str); 8] = [
         ],
         "matrix W 2 2\n1 3\n9 4\nend\n",
     ),
+    // A system that is solved by the two factors of its matrix, which are packed in one.
+    (
+        &[
+            "flame 1\nmodulus 101\n",
+            LU,
+            ULOW,
+            UPP,
+            "matrix A 2 2\n2 1\n4 5\nend\nmatrix B 2 1\n3\n9\nend\ndo lu A\ndo ulow B A\ndo upp B A\nprint A\nprint B\n",
+        ],
+        "matrix A 2 2\n2 1\n2 3\nend\nmatrix B 2 1\n1\n1\nend\n",
+    ),
+    // The other forms: factors of a symmetric matrix, a triangular system, a Sylvester equation, an inverse.
+    (
+        &[
+            HEAD,
+            LDL,
+            LOW,
+            SYL,
+            INV,
+            "matrix S 2 2\n2 6\n1 3\nend\nmatrix T 2 2\n2 2\n1 3\nend\nmatrix W 2 1\n4\n5\nend\n",
+            "matrix P 3 3\n1 0 0\n1 2 0\n0 1 3\nend\nmatrix U 1 1\n1\nend\nmatrix Q 3 1\n2\n4\n5\nend\n",
+            "matrix V 2 2\n2 0\n1 3\nend\nmatrix I 2 2\n1 0\n0 1\nend\n",
+            "do ldl S\ndo low W T\ndo syl Q P U\ndo inv I V\nprint S\nprint W\nprint Q\nprint I\n",
+        ],
+        "matrix S 2 2\n2 6\n4 6\nend\nmatrix W 2 1\n2\n1\nend\nmatrix Q 3 1\n1\n1\n1\nend\nmatrix I 2 2\n4 0\n1 5\nend\n",
+    ),
     // Nothing to do and nothing to print.
     (&[HEAD, SMALL], ""),
 ];
@@ -154,6 +200,42 @@ fn jobs_are_run(rt: HostRuntime) -> Result<(), Fail> {
     for (i, (parts, text)) in JOBS.iter().enumerate() {
         let given = answered(alloc, RUN, joined(alloc, parts)?, &[], &[])?;
         assert_eq!(rt; given.status, 0, "case {i}");
+        assert_eq!(rt; given.text.as_slice(), text.as_bytes(), "case {i}");
+    }
+    Ok(())
+}
+
+#[test]
+fn bad_pivots_are_named(rt: HostRuntime) -> Result<(), Fail> {
+    let alloc = rt.alloc();
+    let cases: [(&[&str], &str); 3] = [
+        (
+            &[HEAD, LU, "matrix A 2 2\n1 1\n1 1\nend\ndo lu A\nprint A\n"],
+            "no inverse statement 1 row 1 column 1\n",
+        ),
+        (
+            &[
+                HEAD,
+                MUL,
+                SYL,
+                SMALL,
+                "matrix T 1 1\n1\nend\nmatrix U 2 2\n1 0\n0 6\nend\nmatrix Z 1 2\n3 3\nend\ndo mul W A B\ndo syl Z T U\nprint W\n",
+            ],
+            "no inverse statement 2 row 0 column 1\n",
+        ),
+        // A system without right sides still has its pivots.
+        (
+            &[
+                HEAD,
+                LOW,
+                "matrix T 2 2\n3 0\n1 0\nend\nmatrix W 2 0\nend\ndo low W T\n",
+            ],
+            "no inverse statement 1 row 1 column 1\n",
+        ),
+    ];
+    for (i, (parts, text)) in cases.iter().enumerate() {
+        let given = answered(alloc, RUN, joined(alloc, parts)?, &[], &[])?;
+        assert_eq!(rt; given.status, 4, "case {i}");
         assert_eq!(rt; given.text.as_slice(), text.as_bytes(), "case {i}");
     }
     Ok(())
@@ -239,29 +321,13 @@ fn long_inputs_are_refused(rt: HostRuntime) -> Result<(), Fail> {
 }
 
 #[test]
-fn what_is_not_built_is_refused(rt: HostRuntime) -> Result<(), Fail> {
+fn faults_of_the_text_come_first(rt: HostRuntime) -> Result<(), Fail> {
     let alloc = rt.alloc();
-    let cases: [(&[&str], &[&str], &str); 5] = [
+    let cases: [(&[&str], &[&str], &str); 2] = [
         (
             RUN,
-            &[HEAD, MUL, LU, SMALL, "do mul W A B\ndo lu W\ndo lu A\n"],
-            "refused NotBuilt statement 2\n",
-        ),
-        // A fault of the text comes first, wherever it stands.
-        (
-            RUN,
-            &[HEAD, LU, SMALL, "do lu W\nprint C\n"],
-            "refused NameUnknown line 18\n",
-        ),
-        (
-            &["derive"],
-            &[HEAD, MUL, SQR, LU],
-            "refused NotBuilt operation sqr\n",
-        ),
-        (
-            &["derive"],
-            &[HEAD, MUL, LU, SQR],
-            "refused NotBuilt operation lu\n",
+            &[HEAD, LU, SMALL, "matrix O 1 1\n0\nend\ndo lu O\nprint C\n"],
+            "refused NameUnknown line 21\n",
         ),
         (
             &["derive"],
@@ -312,24 +378,65 @@ fn faults_and_bad_words_are_told(rt: HostRuntime) -> Result<(), Fail> {
     Ok(())
 }
 
-/// The families of the product along single dimensions.
+/// The family of the factorisation.
 const FAMILY: &str =
-    "operation mul\nvariants 6\n1 split m forward : term1(0,0,0)\n2 split m backward : term1(1,0,0)\n3 split n forward : term1(0,0,0)\n4 split n backward : term1(0,1,0)\n5 split k forward : term1(0,0,0)\n6 split k backward : term1(0,0,1)\n";
+    "operation lu\nvariants 5\n1 split n forward : solve(0,0)\n2 split n forward : solve(0,0) solve(0,1)\n3 split n forward : solve(0,0) solve(1,0)\n4 split n forward : solve(0,0) solve(0,1) solve(1,0)\n5 split n forward : solve(0,0) solve(0,1) solve(1,0) left(1,1,0)\n";
+
+/// The last two lines of the family of the triangular solve.
+const LAST: &str =
+    "21 split n backward m forward : solve(0,0) left(1,0,0) solve(1,0)\n22 split n backward m backward : solve(0,1) left(1,1,0) solve(1,1)\n";
 
 #[test]
 fn families_are_printed(rt: HostRuntime) -> Result<(), Fail> {
     let alloc = rt.alloc();
-    let cases: [(&[&str], &[&str]); 4] = [
-        (&[HEAD, MUL], &[FAMILY]),
-        (&["flame 1\nmodulus 4294967295\n", MUL], &[FAMILY]),
-        (&[HEAD, MUL, SMALL, TAIL], &[FAMILY]),
-        (&[HEAD], &[]),
+    let cases: [(&[&str], &str, &str); 4] = [
+        (&[HEAD, LU], FAMILY, FAMILY),
+        (&[HEAD, LU, LOW, SMALL, "do lu W\n"], FAMILY, LAST),
+        (
+            &["flame 1\nmodulus 4294967295\n", MUL],
+            "operation mul\nvariants 54\n1 split m forward : term1(0,0,0)\n",
+            "54 split n backward k backward : term1(0,0,1) term1(0,1,0) term1(0,1,1)\n",
+        ),
+        (&[HEAD], "", ""),
     ];
-    for (i, (parts, texts)) in cases.iter().enumerate() {
+    for (i, (parts, front, end)) in cases.iter().enumerate() {
         let given = answered(alloc, &["derive"], joined(alloc, parts)?, &[], &[])?;
-        let text = joined(alloc, texts)?;
         assert_eq!(rt; given.status, 0, "case {i}");
-        assert_eq!(rt; given.text.as_slice(), text.as_slice(), "case {i}");
+        assert!(rt; given.text.starts_with(front.as_bytes()), "case {i}");
+        assert!(rt; given.text.ends_with(end.as_bytes()), "case {i}");
+    }
+    Ok(())
+}
+
+/// How many tasks the variant with a number keeps, where there is one.
+fn kept_count(alloc: Global, op: &Operation, number: u32) -> Result<Option<usize>, AllocError> {
+    match variant_at(alloc, op, number)? {
+        Some(variant) => Ok(Some(variant.kept.len())),
+        None => Ok(None),
+    }
+}
+
+#[test]
+fn variants_are_found(rt: HostRuntime) -> Result<(), Fail> {
+    let alloc = rt.alloc();
+    let text = joined(alloc, &[HEAD, LU])?;
+    assert!(rt; text.len() < 1000);
+    let (job, _) = read_job(alloc, &text, Stop::Nothing)?;
+    assert_eq!(rt; job.operations.len(), 1);
+    let rows: [(u32, Option<usize>); 7] = [
+        (0, None),
+        (1, Some(1)),
+        (2, Some(2)),
+        (3, Some(2)),
+        (4, Some(3)),
+        (5, Some(4)),
+        (6, None),
+    ];
+    for op in job.operations.as_slice() {
+        for (number, count) in &rows {
+            let kept = kept_count(alloc, op, *number)?;
+            assert_eq!(rt; kept, *count, "number {number}");
+        }
     }
     Ok(())
 }

@@ -1,7 +1,6 @@
 -- The splits of an operation: which there are, and that none stands twice. Cited by the laws of families.
-use Rattle.std.proofs.Common.{◌≡◌, ◌≢◌, ℕ, zero, suc, ◌-◌, ◌<◌, inl, inr, List, [], ◌∷◌, ◌++◌, length, get_or, Bool, true, false, if◌then◌else◌, Option, Some, None, refl, sym, ap, ◌∙◌, subst, arith, length-append}
+use Rattle.std.proofs.Common.{◌≡◌, ◌≢◌, ℕ, zero, suc, ◌-◌, ◌<◌, inl, inr, [], ◌∷◌, ◌++◌, length, get_or, Bool, true, false, if◌then◌else◌, Option, Some, None, refl, sym, ap, ◌∙◌, subst, arith, length-append}
 use Rattle.std.specs.Prelude.{All, AllPairs, Contains, nat_lt}
-use Rattle.std.specs.List.{flat_map}
 use Rattle.std.proofs.lemmas.Bool.{cases_lt, ltb-true, lt-ltb}
 use Rattle.std.proofs.lemmas.List.{get_or_append_left, get_or-append_right}
 use Rattle.std.proofs.lemmas.Grind.{get_or_head}
@@ -11,7 +10,7 @@ use Rattle.operation_spec.specs.declared.split.Split.{Split}
 use Rattle.operation_spec.specs.Splits.{IsSplit}
 use Rattle.task_graph.specs.Order.{numbers_below}
 use Rattle.task_graph.proofs.TasksSorted.{AllPairs-append}
-use Rattle.invariant_family.specs.Splits.{single_splits, pair_splits}
+use Rattle.invariant_family.specs.Splits.{single_splits, pair_if_later, pairs_from, pair_splits}
 use Rattle.invariant_family.proofs.FlatMaps.{All-flat_map, Contains-flat_map, Contains-map, AllPairs-map, AllPairs-flat_map}
 
 -- ---- the numbers below n
@@ -67,14 +66,6 @@ single_splits-once op = AllPairs-map (λ a b. a ≢ b) one (numbers_below (lengt
 
 abbrev two : ℕ → ℕ → Split
 two d e = record { first = d; second = Some e }
-
--- the pair of two dimensions, where the second is later
-abbrev pair_if_later : ℕ → ℕ → List Split
-pair_if_later d e = if nat_lt d e then two d e ∷ [] else []
-
--- a dimension with each later one
-abbrev pairs_from : ℕ → ℕ → List Split
-pairs_from n d = flat_map (pair_if_later d) (numbers_below n)
 
 -- what holds of a list of at most one split
 All-if : (P : Split → Type 0) (b : Bool) (split : Split) → (b ≡ true → P split) → All P (if b then split ∷ [] else [])

@@ -1,9 +1,9 @@
--- An operation of at most two terms has few tasks where each dimension is cut into at most three parts. Cited by the law
+-- An operation of at most two terms has few tasks where each dimension is cut into few parts. Cited by the law
 -- of the cuts that a loop makes.
 use Rattle.std.proofs.Common.{◌≡◌, ℕ, zero, suc, ◌+◌, ◌*◌, ◌≤◌, List, [], ◌∷◌, length, Bool, true, false, not, if◌then◌else◌, map, refl, ◌∙◌, arith, length-append}
 use Rattle.std.specs.Prelude.{All}
 use Rattle.std.specs.List.{filter, flat_map}
-use Rattle.std.proofs.Math.Nat.{suc-mul}
+use Rattle.std.proofs.Math.Nat.{suc-mul, mul-le-mul_right}
 use Rattle.std.proofs.lemmas.Bool.{cond_both}
 use Rattle.std.proofs.lemmas.List.{length-map, length-reverse}
 use Rattle.std.proofs.lemmas.List.Elements.{All-map, All-tail}
@@ -31,46 +31,49 @@ length-numbers_in : (descend : Bool) (n : ℕ) → length (numbers_in descend n)
 length-numbers_in true n = length-reverse (numbers_below n) ∙ length-numbers_below n
 length-numbers_in false n = length-numbers_below n
 
--- ---- at most three parts
+-- ---- at most m parts
 
--- of each dimension; one that is not there has none
-abbrev pub AreFew : List ℕ → Type 0
-AreFew counts = (d : ℕ) → parts_of counts d ≤ 3
+module _ (m : ℕ) where
+  -- of each dimension; one that is not there has none
+  abbrev pub AreFew : List ℕ → Type 0
+  AreFew counts = (d : ℕ) → parts_of counts d ≤ m
 
-AreFew-all : (counts : List ℕ) → All (λ count. count ≤ 3) counts → AreFew counts
-AreFew-all [] each d = omega arith
-AreFew-all (count ∷ counts) each zero = each 0 0 (omega arith)
-AreFew-all (count ∷ counts) each (suc d) = AreFew-all counts (All-tail (λ count. count ≤ 3) count counts each) d
+  AreFew-all : (counts : List ℕ) → All (λ count. count ≤ m) counts → AreFew counts
+  AreFew-all [] each d = omega arith
+  AreFew-all (count ∷ counts) each zero = each 0 0 (omega arith)
+  AreFew-all (count ∷ counts) each (suc d) = AreFew-all counts (All-tail (λ count. count ≤ m) count counts each) d
 
--- where a loop along a split cuts its dimensions into at most three parts
-pub AreFew-cut : (split : Split) (n many : ℕ) → many ≤ 3 → AreFew (map (λ d. if is_split split d then many else 1) (numbers_below n))
-AreFew-cut split n many few = AreFew-all _ (All-map (λ count. count ≤ 3) (λ d. if is_split split d then many else 1) (numbers_below n)
-    (λ k d below. cond_both _ many 1 (λ count. count ≤ 3) (λ along. few) (λ whole. omega arith)))
+  -- where a loop along a split cuts its dimensions into so many parts
+  pub AreFew-cut : (split : Split) (n : ℕ) → 1 ≤ m → AreFew (map (λ d. if is_split split d then m else 1) (numbers_below n))
+  AreFew-cut split n some = AreFew-all _ (All-map (λ count. count ≤ m) (λ d. if is_split split d then m else 1) (numbers_below n)
+      (λ k d below. cond_both _ m 1 (λ count. count ≤ m) (λ along. omega arith) (λ whole. some)))
 
--- ---- the tasks
+  -- ---- the tasks
 
--- a term has at most three products in a block
-term_candidates-few : (op : Operation) (counts : List ℕ) (terms : List Term) (t i j : ℕ) → AreFew counts → length (term_candidates op counts terms t i j) ≤ length terms * 3
-term_candidates-few op counts [] t i j few = omega arith
-term_candidates-few op counts (term ∷ terms) t i j few =
-    simp (length-append, length-map, length-numbers_below) (omega (arith, few (factor_cols op term.first), term_candidates-few op counts terms (t + 1) i j few))
+  -- a term has at most m products in a block
+  term_candidates-few : (op : Operation) (counts : List ℕ) (terms : List Term) (t i j : ℕ) → AreFew counts → length (term_candidates op counts terms t i j) ≤ length terms * m
+  term_candidates-few op counts [] t i j few = omega arith
+  term_candidates-few op counts (term ∷ terms) t i j few =
+      simp (length-append, length-map, length-numbers_below)
+      (omega (arith, few (factor_cols op term.first), term_candidates-few op counts terms (t + 1) i j few, suc-mul (length terms) m))
 
--- a block has at most six products of terms, three updates on each side, and its solve
-candidates-few : (op : Operation) (counts : List ℕ) (i j : ℕ) → length op.terms ≤ 2 → AreFew counts → length (candidates op counts i j) ≤ 13
-candidates-few op counts i j terms few =
-    simp (length-append, length-map, length-numbers_below) (omega (arith, term_candidates-few op counts op.terms 1 i j few, few op.work.rows, few op.work.cols))
+  -- a block has at most 2 m products of terms, m updates on each side, and its solve
+  candidates-few : (op : Operation) (counts : List ℕ) (i j : ℕ) → length op.terms ≤ 2 → AreFew counts → length (candidates op counts i j) ≤ 4 * m + 1
+  candidates-few op counts i j terms few =
+      simp (length-append, length-map, length-numbers_below)
+      (omega (arith, term_candidates-few op counts op.terms 1 i j few, mul-le-mul_right m terms, few op.work.rows, few op.work.cols))
 
-block-few : (op : Operation) (counts : List ℕ) (i j : ℕ) → length op.terms ≤ 2 → AreFew counts → length (filter (has op counts) (candidates op counts i j)) ≤ 13
-block-few op counts i j terms few =
-    omega (arith, candidates-few op counts i j terms few, length-filter_both (has op counts) (λ task. not (has op counts task)) (λ task. refl) (candidates op counts i j))
+  block-few : (op : Operation) (counts : List ℕ) (i j : ℕ) → length op.terms ≤ 2 → AreFew counts → length (filter (has op counts) (candidates op counts i j)) ≤ 4 * m + 1
+  block-few op counts i j terms few =
+      omega (arith, candidates-few op counts i j terms few, length-filter_both (has op counts) (λ task. not (has op counts task)) (λ task. refl) (candidates op counts i j))
 
--- a row has at most three blocks
-row-few : (op : Operation) (counts : List ℕ) (i : ℕ) → length op.terms ≤ 2 → AreFew counts
-    → length (flat_map (λ j. filter (has op counts) (candidates op counts i j)) (numbers_in (cols_descend op) (parts_of counts op.work.cols))) ≤ 39
-row-few op counts i terms few = length-flat_map-le (λ j. filter (has op counts) (candidates op counts i j)) 13 (λ j. block-few op counts i j terms few)
-    (numbers_in (cols_descend op) (parts_of counts op.work.cols)) 3 (omega (arith, few op.work.cols, length-numbers_in (cols_descend op) (parts_of counts op.work.cols)))
+  -- a row has at most m blocks
+  row-few : (op : Operation) (counts : List ℕ) (i : ℕ) → length op.terms ≤ 2 → AreFew counts
+      → length (flat_map (λ j. filter (has op counts) (candidates op counts i j)) (numbers_in (cols_descend op) (parts_of counts op.work.cols))) ≤ m * (4 * m + 1)
+  row-few op counts i terms few = length-flat_map-le (λ j. filter (has op counts) (candidates op counts i j)) (4 * m + 1) (λ j. block-few op counts i j terms few)
+      (numbers_in (cols_descend op) (parts_of counts op.work.cols)) m (omega (arith, few op.work.cols, length-numbers_in (cols_descend op) (parts_of counts op.work.cols)))
 
--- and there are at most three rows
-pub tasks_of-few : (op : Operation) (counts : List ℕ) → length op.terms ≤ 2 → AreFew counts → length (tasks_of op counts) ≤ 117
-tasks_of-few op counts terms few = length-flat_map-le {Y = Task} _ 39 (λ i. row-few op counts i terms few)
-    (numbers_in (rows_descend op) (parts_of counts op.work.rows)) 3 (omega (arith, few op.work.rows, length-numbers_in (rows_descend op) (parts_of counts op.work.rows)))
+  -- and there are at most m rows
+  pub tasks_of-few : (op : Operation) (counts : List ℕ) → length op.terms ≤ 2 → AreFew counts → length (tasks_of op counts) ≤ m * (m * (4 * m + 1))
+  tasks_of-few op counts terms few = length-flat_map-le {Y = Task} _ (m * (4 * m + 1)) (λ i. row-few op counts i terms few)
+      (numbers_in (rows_descend op) (parts_of counts op.work.rows)) m (omega (arith, few op.work.rows, length-numbers_in (rows_descend op) (parts_of counts op.work.rows)))

@@ -1,18 +1,20 @@
 -- Families along any splits: what each variant has, which there are, and that none stands twice. Cited by the laws of
 -- families.
-use Rattle.std.proofs.Common.{◌≡◌, ◌≢◌, ℕ, ◌+◌, ◌<◌, List, length, true, get_or, arith}
+use Rattle.std.proofs.Common.{◌≡◌, ◌≢◌, ℕ, zero, suc, ◌+◌, ◌<◌, ◌≤◌, List, [], Some, None, length, true, get_or, ap, ◌∙◌, arith}
 use Rattle.std.specs.Prelude.{All, AllPairs, Contains}
 use Rattle.operation_spec.specs.declared.operation.Operation.{Operation}
 use Rattle.operation_spec.specs.declared.split.Split.{Split}
 use Rattle.operation_spec.specs.declared.split.Dirs.{Dirs}
+use Rattle.operation_spec.specs.declared.split.Dir.TheVariants.{Forward}
+use Rattle.std.proofs.lemmas.Option.{slice_get-get_or}
 use Rattle.operation_spec.specs.declared.task.Task.{Task}
 use Rattle.task_graph.specs.Order.{tasks_of}
 use Rattle.invariant_family.specs.declared.variant.Variant.{Variant}
 use Rattle.invariant_family.specs.Splits.{two_parts, directions_of}
 use Rattle.invariant_family.specs.Feasible.{is_feasible}
-use Rattle.invariant_family.specs.Families.{invariant_of, invariant_of_variant, invariants_along, numbered_from}
+use Rattle.invariant_family.specs.Families.{invariant_of, invariant_of_variant, invariants_along, numbered_from, variant_numbered}
 use Rattle.invariant_family.specs.Sublists.{IsSublist}
-use Rattle.invariant_family.proofs.Numbering.{length-numbered_from, number-numbered_from, All-numbered_from, AllPairs-numbered_from, Contains-numbered_from}
+use Rattle.invariant_family.proofs.Numbering.{length-numbered_from, number-numbered_from, All-numbered_from, AllPairs-numbered_from, Contains-numbered_from, found_at}
 use Rattle.invariant_family.proofs.Variants.{All-invariants, invariants_go_along, feasible_sets_pass, feasible_sets_are_sublists, Contains-invariants, invariants_once}
 
 module _ (op : Operation) (splits : List Split) where
@@ -42,3 +44,16 @@ module _ (op : Operation) (splits : List Split) where
 
   pub variants_count_up : (k : ℕ) (d : Variant) → k < length family → (get_or family k d).number ≡ 1 + k
   variants_count_up k d below = number-numbered_from 1 (invariants_along op splits) k d (omega (arith, length-numbered_from 1 (invariants_along op splits)))
+
+  -- the variant with a number
+  pub numbers_find : (number : ℕ) → 1 ≤ number → number ≤ length family → (v : Variant) × (variant_numbered family number ≡ Some v) × (v.number ≡ number)
+  numbers_find zero low high = absurd (omega arith)
+  numbers_find (suc k) low high =
+      let d : Variant = record { number = 0; split = record { first = 0; second = None }; dirs = record { first = Forward; second = Forward }; kept = [] } in
+      let below : k < length family = omega arith in
+      (get_or family k d, slice_get-get_or family k d below, omega (arith, variants_count_up k d below))
+
+  pub variants_found : All (λ v. variant_numbered family v.number ≡ Some v) family
+  variants_found k d below =
+      let next : (get_or family k d).number ≡ suc k = omega (arith, variants_count_up k d below) in
+      ap (variant_numbered family) next ∙ found_at family k d below

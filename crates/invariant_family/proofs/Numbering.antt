@@ -1,7 +1,9 @@
 -- Lists along numbers that go up by one: the variants of a family, and what stands for each dimension. Cited by the
 -- functions that add variants to a family, and by those that make cuts.
-use Rattle.std.proofs.Common.{◌≡◌, ℕ, zero, suc, ◌+◌, ◌<◌, List, [], ◌∷◌, ◌++◌, length, take, get_or, append_assoc, length-append, refl, sym, ap, subst, ◌∙◌, arith, add-zero, add-one, map}
-use Rattle.std.specs.Prelude.{All, AllPairs, Contains}
+use Rattle.std.proofs.Common.{◌≡◌, inl, inr, ◌⊎◌, ℕ, zero, suc, ◌+◌, ◌<◌, ◌≤◌, Option, Some, None, List, [], ◌∷◌, ◌++◌, length, take, get_or, append_assoc, length-append, refl, sym, ap, subst, ◌∙◌, arith, add-zero, add-one, map}
+use Rattle.std.specs.Prelude.{◌↔◌, All, AllPairs, Contains}
+use Rattle.std.proofs.lemmas.Bool.{cases_lt}
+use Rattle.std.proofs.lemmas.Option.{slice_get-get_or, slice_get_past}
 use Rattle.std.proofs.lemmas.List.{map-append, append-nil, take_more}
 use Rattle.std.proofs.lemmas.List.Concat.{flat_map-append}
 use Rattle.std.proofs.lemmas.List.Elements.{All-contains_itself}
@@ -9,9 +11,10 @@ use Rattle.std.specs.List.{flat_map}
 use Rattle.task_graph.specs.Order.{numbers_below}
 use Rattle.operation_spec.specs.declared.split.Split.{Split}
 use Rattle.operation_spec.specs.declared.split.Dirs.{Dirs}
+use Rattle.operation_spec.specs.declared.split.Dir.TheVariants.{Forward}
 use Rattle.operation_spec.specs.declared.task.Task.{Task}
 use Rattle.invariant_family.specs.declared.variant.Variant.{Variant}
-use Rattle.invariant_family.specs.Families.{Invariant, invariant_of, invariant_of_variant, numbered_from}
+use Rattle.invariant_family.specs.Families.{Invariant, invariant_of, invariant_of_variant, numbered_from, variant_numbered}
 
 pub length-numbered_from : (n : ℕ) (vs : List Invariant) → length (numbered_from n vs) ≡ length vs
 length-numbered_from n [] = refl
@@ -94,3 +97,29 @@ family_more-item give items n d old family more below family_is more_is =
 -- a function of each number below n, with one number more
 pub map_numbers_more : {X : Type 0} (f : ℕ → X) (n : ℕ) → map f (numbers_below (n + 1)) ≡ map f (numbers_below n) ++ f n ∷ []
 map_numbers_more f n = rw add-one (map-append f (numbers_below n) (n ∷ []))
+
+-- ---- finding a variant by its number
+
+-- the variant at a place is found by the number that follows
+pub found_at : (vs : List Variant) (k : ℕ) (d : Variant) → k < length vs → variant_numbered vs (suc k) ≡ Some (get_or vs k d)
+found_at vs k d below = slice_get-get_or vs k d below
+
+-- none is found by 0, and none by a number past the length
+pub none_found : (vs : List Variant) (number : ℕ) (found : Option Variant) → found ≡ variant_numbered vs number
+    → (found ≡ None) ↔ ((number ≡ 0) ⊎ (length vs < number))
+none_found vs zero found is = (λ none. inl refl, λ past. is)
+none_found vs (suc k) found is = (λ none. inr (past (cases_lt k (length vs)) none), λ number. is ∙ slice_get_past vs k (beyond number))
+  where
+    unnamed : Variant
+    unnamed = record { number = 0; split = record { first = 0; second = None }; dirs = record { first = Forward; second = Forward }; kept = [] }
+
+    some_or_none : {v : Variant} → Some v ≡ None → ⊥
+    some_or_none e = cc
+
+    past : (k < length vs) ⊎ (length vs ≤ k) → found ≡ None → length vs < suc k
+    past (inl below) none = absurd (some_or_none (sym (slice_get-get_or vs k unnamed below) ∙ sym is ∙ none))
+    past (inr beyond) none = omega arith
+
+    beyond : (suc k ≡ 0) ⊎ (length vs < suc k) → length vs ≤ k
+    beyond (inl e) = absurd (omega arith)
+    beyond (inr h) = omega arith

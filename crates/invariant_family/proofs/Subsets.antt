@@ -1,18 +1,17 @@
 -- The subsets of a list of tasks: each is a part of the list, each part is one, and they come by their numbers.
 -- Cited by the laws of families.
-use Rattle.std.proofs.Common.{◌≡◌, ◌≢◌, ◌+◌, ◌*◌, ◌<◌, ◌≤◌, inl, inr, List, [], ◌∷◌, true, false, refl, sym, ap, ◌∙◌, arith}
-use Rattle.std.specs.Prelude.{All, AllPairs, Contains, ◌==◌}
+use Rattle.std.proofs.Common.{◌≡◌, ◌≢◌, ◌+◌, ◌*◌, ◌<◌, ◌≤◌, inl, inr, List, [], ◌∷◌, false, refl, sym, ap, ◌∙◌, arith}
+use Rattle.std.specs.Prelude.{All, AllPairs, Contains}
 use Rattle.std.proofs.lemmas.List.Elements.{All-nil, All-cons, All-head, All-tail, All-weaker}
 use Rattle.std.proofs.lemmas.List.Kept.{AllPairs-cons}
-use Rattle.std.proofs.lemmas.Bool.{and_parts, false_from_ne_true, eqb-true, or_from}
+use Rattle.std.proofs.lemmas.Bool.{or_from}
 use Rattle.operation_spec.specs.declared.task.Task.{Task}
-use Rattle.task_graph.specs.Order.{rank}
 use Rattle.task_graph.proofs.EarlierTasks as earlier_tasks
 use Rattle.invariant_family.specs.Feasible.{same_task, holds}
 use Rattle.invariant_family.specs.Families.{subsets}
 use Rattle.invariant_family.specs.Sublists.{IsSublist, set_number}
 use Rattle.invariant_family.proofs.FlatMaps.{All-flat_map, Contains-flat_map, AllPairs-flat_map, AllPairs-parts}
-use Rattle.invariant_family.proofs.GrowingSets.{same_task-refl}
+use Rattle.invariant_family.proofs.SameTasks.{same_task-refl, same_task-false}
 
 -- ---- which they are
 
@@ -33,18 +32,6 @@ sublists_are_subsets (t ∷ ts) s (inl h) = Contains-flat_map (λ r. r ∷ (t �
 sublists_are_subsets (t ∷ ts) s (inr (rest, e, h)) = Contains-flat_map (λ r. r ∷ (t ∷ r) ∷ []) (subsets ts) rest s (sublists_are_subsets ts rest h) (1, omega arith, sym e)
 
 -- ---- in which order
-
--- tasks that pass the test of being one are one
-same_task-true : (a b : Task) → same_task a b ≡ true → a ≡ b
-same_task-true a b h =
-    let k = and_parts _ (a.k == b.k) h in
-    let j = and_parts _ (a.j == b.j) k.0 in
-    let i = and_parts _ (a.i == b.i) j.0 in
-    let first = and_parts (rank a.kind == rank b.kind) (a.term == b.term) i.0 in
-    earlier_tasks.same_task a b (eqb-true a.i b.i i.1) (eqb-true a.j b.j j.1) (eqb-true (rank a.kind) (rank b.kind) first.0) (eqb-true a.term b.term first.1) (eqb-true a.k b.k k.1)
-
-same_task-false : (a b : Task) → a ≢ b → same_task a b ≡ false
-same_task-false a b ne = false_from_ne_true (same_task a b) (λ e. ne (same_task-true a b e))
 
 -- a part of a list doesn't hold a task that the list doesn't have
 holds-sublist : (ts s : List Task) (t : Task) → All (λ u. t ≢ u) ts → IsSublist s ts → holds s t ≡ false

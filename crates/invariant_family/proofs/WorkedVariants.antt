@@ -8,7 +8,7 @@ use Rattle.operation_spec.specs.declared.split.Dir.TheVariants.{Forward, Backwar
 use Rattle.operation_spec.proofs.WorkedOperations.{low, low_primed, prod}
 use Rattle.task_graph.specs.Order.{task_of}
 use Rattle.invariant_family.specs.declared.variant.Variant.{Variant}
-use Rattle.invariant_family.specs.Families.{family_of, single_family_of}
+use Rattle.invariant_family.specs.Families.{family_of}
 
 solve : ℕ → ℕ → Task
 solve i j = task_of kinds.Solve 0 i j 0
@@ -50,7 +50,7 @@ unfolding low_primed solve left single pair variant
 low_primed_lines = refl
 
 -- five sets forward, and then five backward
-prod_sets : map (λ (v : Variant). v.kept) (single_family_of prod)
+prod_sets : map (λ (v : Variant). v.kept) (family_of prod)
     ≡ (term 0 0 0 ∷ [])
     ∷ (term 0 0 0 ∷ term 0 1 0 ∷ [])
     ∷ (term 0 0 0 ∷ term 1 0 0 ∷ [])

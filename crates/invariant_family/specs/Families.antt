@@ -1,5 +1,5 @@
 -- The family of an operation: all feasible sets, for each split and its directions, in order.
-use Rattle.std.specs.Prelude.{ℕ, ◌+◌, List, [], ◌∷◌, ◌++◌, map, filter}
+use Rattle.std.specs.Prelude.{ℕ, zero, suc, ◌+◌, List, [], ◌∷◌, ◌++◌, map, filter, slice_get, Option, None}
 use Rattle.std.specs.List.{flat_map}
 use Rattle.operation_spec.specs.declared.operation.Operation.{Operation}
 use Rattle.operation_spec.specs.declared.split.Split.{Split}
@@ -50,10 +50,11 @@ abbrev pub numbered_from : ℕ → List Invariant → List Variant
 numbered_from n [] = []
 numbered_from n (v ∷ vs) = record { number = n; split = v.split; dirs = v.dirs; kept = v.kept } ∷ numbered_from (n + 1) vs
 
--- the family along single dimensions
-abbrev pub single_family_of : Operation → List Variant
-single_family_of op = numbered_from 1 (invariants_along op (single_splits op))
-
--- the whole family
+-- the family: along each dimension alone, and then along each two
 abbrev pub family_of : Operation → List Variant
 family_of op = numbered_from 1 (invariants_along op (single_splits op ++ pair_splits op))
+
+-- the variant of a list with a number, counted from 1
+abbrev pub variant_numbered : List Variant → ℕ → Option Variant
+variant_numbered variants zero = None
+variant_numbered variants (suc place) = slice_get variants place

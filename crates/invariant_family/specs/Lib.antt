@@ -1,6 +1,7 @@
 pub mod Families
 pub mod Feasible
-pub mod Partial
+pub mod Numbers
+pub mod Rules
 pub mod Sides
 pub mod Splits
 pub mod Sublists

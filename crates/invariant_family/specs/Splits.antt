@@ -82,13 +82,25 @@ all_split_indices op split dirs side task = list_all (λ x. not (is_split split 
 
 -- ---- all splits and directions, in order
 
+-- one dimension alone
+abbrev pub along : ℕ → Split
+along d = record { first = d; second = None }
+
 -- each dimension alone
 abbrev pub single_splits : Operation → List Split
-single_splits op = map (λ d. record { first = d; second = None }) (numbers_below (length op.dims))
+single_splits op = map along (numbers_below (length op.dims))
+
+-- the pair of two dimensions, where the second is later
+abbrev pub pair_if_later : ℕ → ℕ → List Split
+pair_if_later d e = if nat_lt d e then record { first = d; second = Some e } ∷ [] else []
+
+-- a dimension with each later one below n
+abbrev pub pairs_from : ℕ → ℕ → List Split
+pairs_from n d = flat_map (pair_if_later d) (numbers_below n)
 
 -- two dimensions in declared order, by the first and then the second
 abbrev pub pair_splits : Operation → List Split
-pair_splits op = flat_map (λ d. flat_map (λ e. if nat_lt d e then record { first = d; second = Some e } ∷ [] else []) (numbers_below (length op.dims))) (numbers_below (length op.dims))
+pair_splits op = flat_map (pairs_from (length op.dims)) (numbers_below (length op.dims))
 
 abbrev pub both_directions : List Dir
 both_directions = Forward ∷ Backward ∷ []

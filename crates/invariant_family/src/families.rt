@@ -1,64 +1,109 @@
 //! The variants of an operation: its loop invariants along splits, numbered in order.
 
-ghost use Rattle.std.specs.Prelude.{◌≡◌, ◌+◌, [], ◌∷◌, ◌++◌, length, map, IfOk, OnOk, None};
+ghost use Rattle.std.specs.Prelude.{◌≡◌, ◌↔◌, ◌⊎◌, ◌+◌, ◌<◌, [], ◌∷◌, ◌++◌, length, map, IfOk, OnOk, None};
 ghost use Rattle.std.specs.List.{flat_map};
 ghost use Rattle.task_graph.specs.Order.{numbers_below};
-ghost use Rattle.invariant_family.specs.Splits.{single_splits, directions_of};
-ghost use Rattle.invariant_family.specs.Families.{Invariant, invariants_in, invariants_of_split, invariants_along, numbered_from, single_family_of};
+ghost use Rattle.invariant_family.specs.Splits.{along, single_splits, pair_if_later, pairs_from, pair_splits, directions_of};
+ghost use Rattle.invariant_family.specs.Families.{Invariant, invariants_in, invariants_of_split, invariants_along, numbered_from, family_of, variant_numbered};
 
 use crate::variant::Variant;
 use crate::walk::feasible_sets;
 use operation_spec::{Dir, Dirs, Operation, Split, TaskList};
 use std::alloc::{AllocError, Global};
 
-/// The family of an operation along single dimensions: its variants, numbered from 1. Pairs of dimensions follow
-/// later.
+/// The family of an operation: its variants along each dimension alone and then along each two in declared order,
+/// numbered from 1.
 ///
-/// Its one error is want of memory. That is also answered where there are more dimensions, variants or tasks of one
-/// cut than the numbers of their types hold.
+/// Its one error is want of memory. That is also answered where there are more dimensions or variants than the numbers
+/// of their types hold, or more than 64 tasks of one cut in two parts, which no valid operation has.
 pub fn family(alloc: Global, op: &Operation) -> Result<Vec<Variant>, AllocError>
-    ensures { IfOk result (λ variants. variants.items ≡ single_family_of op.now) }
+    ensures { IfOk result (λ variants. variants.items ≡ family_of op.now) }
 {
-    let splits = single_splits(alloc, op)?;
-    Ok(family_along(alloc, op, splits.as_slice())?)
-}
-
-/// The variants of an operation along splits, in their order, numbered from 1: for each split each of its
-/// directions, forward first, and for those each feasible set by its number.
-///
-/// Splits are numbered by the operation's dimensions; a dimension that it doesn't have is not cut. Its one error is
-/// want of memory. That is also answered where there are more variants or tasks of one cut than the numbers of
-/// their types hold.
-pub(crate) fn family_along(
-    alloc: Global,
-    op: &Operation,
-    splits: &[Split],
-) -> Result<Vec<Variant>, AllocError>
-    ensures { IfOk result (λ variants. variants.items ≡ numbered_from 1 (invariants_along op.now splits.now)) }
-{
+    let splits = splits(alloc, op)?;
     let mut variants = Vec::new(alloc);
-    for split in splits {
+    for split in &splits {
         add_split(alloc, op, *split, &mut variants)?;
     }
     Ok(variants)
 }
 
-/// Each dimension alone.
-#[tactic(auto, using(crate::proofs::Numbering::map_numbers_more))]
-fn single_splits(alloc: Global, op: &Operation) -> Result<Vec<Split>, AllocError>
-    ensures { IfOk result (λ splits. splits.items ≡ single_splits op.now) }
+/// The variant of an operation with a number, from 1, or None exactly where the family has no such number.
+///
+/// Its one error is want of memory, as of `family`.
+pub fn variant_at(alloc: Global, op: &Operation, number: u32) -> Result<Option<Variant>, AllocError>
+    ensures value { IfOk result (λ found. found ≡ variant_numbered (family_of op.now) number) }
+    ensures none { IfOk result (λ found.
+        (found ≡ None) ↔ ((number ≡ 0) ⊎ (length (family_of op.now) < number))) }
 {
+    let Some(place) = number.checked_sub(1) else {
+        return Ok(None);
+    };
+    let mut variants = family(alloc, op)?;
+    if place as usize >= variants.len() {
+        return Ok(None);
+    }
+    Ok(Some(variants.swap_remove(place as usize)))
+}
+
+/// The splits of an operation: each dimension alone, and then each two in declared order, by the first and then the
+/// second.
+fn splits(alloc: Global, op: &Operation) -> Result<Vec<Split>, AllocError>
+    ensures { IfOk result (λ splits. splits.items ≡ single_splits op.now ++ pair_splits op.now) }
+{
+    let Ok(count) = u32::try_from(op.dims.len()) else {
+        return Err(AllocError);
+    };
     let mut splits = Vec::new(alloc);
-    for dim in 0..op.dims.len() {
-        let Ok(first) = u32::try_from(dim) else {
-            return Err(AllocError);
-        };
+    add_singles(count, &mut splits)?;
+    add_pairs(count, &mut splits)?;
+    Ok(splits)
+}
+
+/// Adds each of so many dimensions alone.
+fn add_singles(count: u32, splits: &mut Vec<Split>) -> Result<(), AllocError>
+    ensures { OnOk result (splits.new.items ≡ splits.old.items ++ map along (numbers_below count)) }
+{
+    for first in 0..count {
         splits.push(Split {
             first,
             second: None,
         })?;
     }
-    Ok(splits)
+    Ok(())
+}
+
+/// Adds each two of so many dimensions, in declared order.
+fn add_pairs(count: u32, splits: &mut Vec<Split>) -> Result<(), AllocError>
+    ensures { OnOk result (splits.new.items
+        ≡ splits.old.items ++ flat_map (pairs_from count) (numbers_below count)) }
+{
+    for first in 0..count {
+        add_pairs_from(first, count, splits)?;
+    }
+    Ok(())
+}
+
+/// Adds a dimension with each later one of so many.
+fn add_pairs_from(first: u32, count: u32, splits: &mut Vec<Split>) -> Result<(), AllocError>
+    ensures { OnOk result (splits.new.items ≡ splits.old.items ++ pairs_from count first) }
+{
+    for second in 0..count {
+        add_if_later(first, second, splits)?;
+    }
+    Ok(())
+}
+
+/// Adds two dimensions where the second is the later one.
+fn add_if_later(first: u32, second: u32, splits: &mut Vec<Split>) -> Result<(), AllocError>
+    ensures { OnOk result (splits.new.items ≡ splits.old.items ++ pair_if_later first second) }
+{
+    if first < second {
+        splits.push(Split {
+            first,
+            second: Some(second),
+        })?;
+    }
+    Ok(())
 }
 
 /// Adds the variants along one split.
@@ -68,7 +113,9 @@ fn add_split(
     split: Split,
     variants: &mut Vec<Variant>,
 ) -> Result<(), AllocError>
-    ensures { OnOk result (variants.new.items ≡ variants.old.items ++ numbered_from (length variants.old.items + 1) (invariants_of_split op.now split)) }
+    ensures { OnOk result (variants.new.items
+        ≡ variants.old.items
+        ++ numbered_from (length variants.old.items + 1) (invariants_of_split op.now split)) }
 {
     for dirs in &directions(alloc, split)? {
         add_directions(alloc, op, split, *dirs, variants)?;
@@ -113,7 +160,9 @@ fn add_directions(
     dirs: Dirs,
     variants: &mut Vec<Variant>,
 ) -> Result<(), AllocError>
-    ensures { OnOk result (variants.new.items ≡ variants.old.items ++ numbered_from (length variants.old.items + 1) (invariants_in op.now split dirs)) }
+    ensures { OnOk result (variants.new.items
+        ≡ variants.old.items
+        ++ numbered_from (length variants.old.items + 1) (invariants_in op.now split dirs)) }
 {
     for kept in feasible_sets(alloc, op, split, dirs)? {
         add_variant(split, dirs, kept, variants)?;
@@ -128,7 +177,13 @@ fn add_variant(
     kept: TaskList,
     variants: &mut Vec<Variant>,
 ) -> Result<(), AllocError>
-    ensures { OnOk result (variants.new.items ≡ variants.old.items ++ record { number = length variants.old.items + 1; split = split; dirs = dirs; kept = kept } ∷ []) }
+    ensures { OnOk result (variants.new.items ≡ variants.old.items
+        ++ record {
+          number = length variants.old.items + 1;
+          split = split;
+          dirs = dirs;
+          kept = kept;
+        } ∷ []) }
 {
     let Ok(before) = u32::try_from(variants.len()) else {
         return Err(AllocError);

@@ -6,10 +6,8 @@ mod families;
 pub mod laws;
 mod rules;
 mod splits;
-#[cfg(test)]
-mod tests;
 mod variant;
 mod walk;
 
-pub use families::family;
+pub use families::{family, variant_at};
 pub use variant::Variant;

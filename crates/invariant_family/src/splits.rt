@@ -67,7 +67,8 @@ pub(crate) fn parts(
     split: Split,
     many: u32,
 ) -> Result<Counts, AllocError>
-    ensures { IfOk result (λ parts. parts ≡ map (λ d. if is_split split d then many else 1) (numbers_below (length op.now.dims))) }
+    ensures { IfOk result (λ parts. parts
+        ≡ map (λ d. if is_split split d then many else 1) (numbers_below (length op.now.dims))) }
 {
     let mut parts = Counts::new(alloc);
     for dim in 0..op.dims.len() {
@@ -96,7 +97,8 @@ pub(crate) fn cut(
 
 /// How that cut cuts a dimension.
 fn sides(split: Split, dirs: Dirs, side: Side, dim: usize) -> Sides
-    ensures { result ≡ (if is_split split dim then middle_on side (dir_of split dirs dim) else Sides.One) }
+    ensures { result
+        ≡ (if is_split split dim then middle_on side (dir_of split dirs dim) else Sides.One) }
 {
     if is_split(split, dim) {
         side.middle(dir_of(split, dirs, dim))

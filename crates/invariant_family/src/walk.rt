@@ -1,14 +1,15 @@
-//! The walk over the sets of a split's tasks, from the last task to the first, that drops each set as soon as it
-//! can no longer become feasible.
+//! The walk over the sets of a split's tasks, from the last task to the first, that keeps those whose tasks go together.
+//! A set is a number on the way, in which the task at place p counts 2^p.
 
-ghost use Rattle.std.specs.Prelude.{◌≡◌, ◌<◌, [], ◌∷◌, ◌++◌, length, map, filter, IfOk, OnOk};
+ghost use Rattle.std.specs.Prelude.{◌≡◌, ◌+◌, ◌*◌, ◌/◌, [], ◌∷◌, ◌++◌, map, if◌then◌else◌, IfOk, OnOk};
 ghost use Rattle.std.specs.List.{flat_map};
 ghost use Rattle.task_graph.specs.Order.{tasks_of};
-ghost use Rattle.invariant_family.specs.Families.{subsets, feasible_sets};
+ghost use Rattle.invariant_family.specs.Families.{feasible_sets};
 ghost use Rattle.invariant_family.specs.Splits.{three_parts};
-ghost use Rattle.invariant_family.specs.Partial.{classes_by, class_pair, can_be_feasible};
+ghost use Rattle.invariant_family.specs.Rules.{classes_by, class_pair, wants, may_hold, may_lack};
+ghost use Rattle.invariant_family.specs.Numbers.{is_odd, set_of, can_lack, can_hold, with_next, numbers_of};
 
-use crate::rules::{ClassPair, Rules};
+use crate::rules::{ClassPair, Rule, Rules};
 use crate::splits::{Side, cut, parts};
 use operation_spec::{Dirs, Operation, Split, Task, TaskList};
 use std::alloc::{AllocError, Global};
@@ -33,7 +34,8 @@ pub(crate) fn feasible_sets(
         tasks: two_part_tasks.as_slice(),
         pairs: pairs.as_slice(),
     };
-    Ok(walk(alloc, &rules)?)
+    let numbers = walk(alloc, &rules)?;
+    Ok(sets_of(alloc, rules.tasks, numbers.as_slice())?)
 }
 
 /// The tasks of an operation under a cut.
@@ -53,7 +55,8 @@ fn class_pairs(
     split: Split,
     dirs: Dirs,
 ) -> Result<Vec<ClassPair>, AllocError>
-    ensures { IfOk result (λ pairs. pairs.items ≡ map (class_pair op.now split dirs) (tasks_of op.now (three_parts op.now split))) }
+    ensures { IfOk result (λ pairs. pairs.items
+        ≡ map (class_pair op.now split dirs) (tasks_of op.now (three_parts op.now split))) }
 {
     let remaining = cut(alloc, op, split, dirs, Side::Remaining)?;
     let done = cut(alloc, op, split, dirs, Side::Done)?;
@@ -70,7 +73,8 @@ fn classes(
     done: &Cut,
     tasks: &[Task],
 ) -> Result<Vec<ClassPair>, AllocError>
-    ensures { IfOk result (λ pairs. pairs.items ≡ map (classes_by op.now remaining.now done.now) tasks.now) }
+    ensures { IfOk result (λ pairs. pairs.items
+        ≡ map (classes_by op.now remaining.now done.now) tasks.now) }
 {
     tasks
         .iter()
@@ -81,61 +85,86 @@ fn classes(
         .collect(alloc)
 }
 
-/// The sets that meet the rules with no task undecided.
-fn walk(alloc: Global, rules: &Rules) -> Result<Vec<TaskList>, AllocError>
-    ensures { IfOk result (λ sets. sets.items ≡ filter (can_be_feasible rules.now.op.now rules.now.split rules.now.dirs rules.now.tasks.now rules.now.pairs.now []) (subsets rules.now.tasks.now)) }
+/// The numbers of the sets that meet the rules, ascending.
+fn walk(alloc: Global, rules: &Rules) -> Result<Vec<u64>, AllocError>
+    ensures { IfOk result (λ numbers. numbers.items
+        ≡ numbers_of (wants rules.now.op.now rules.now.pairs.now)
+        (may_hold rules.now.op.now rules.now.split rules.now.dirs rules.now.tasks.now
+        rules.now.pairs.now)
+        (may_lack rules.now.op.now rules.now.split rules.now.dirs) rules.now.tasks.now) }
 {
-    let mut sets = Vec::new(alloc);
-    sets.push(TaskList::new(alloc))?;
+    let mut numbers = Vec::new(alloc);
+    numbers.push(0)?;
     let mut left = rules.tasks.len();
     while left > 0 {
+        let rule = rules.rule(alloc, rules.tasks[left - 1], &rules.tasks[left..])?;
+        numbers = decided(alloc, &rule, numbers.as_slice())?;
         left -= 1;
-        sets = decided(alloc, rules, &rules.tasks[..left], rules.tasks[left], sets)?;
     }
-    Ok(sets)
+    Ok(numbers)
 }
 
-/// The same sets with one task more decided: each set without it and then with it, as far as they can become
-/// feasible by the tasks that are still undecided.
-fn decided(
-    alloc: Global,
-    rules: &Rules,
-    undecided: &[Task],
-    task: Task,
-    sets: Vec<TaskList>,
-) -> Result<Vec<TaskList>, AllocError>
-    ensures { IfOk result (λ more. more.items ≡ filter (can_be_feasible rules.now.op.now rules.now.split rules.now.dirs rules.now.tasks.now rules.now.pairs.now undecided.now) (flat_map (λ s. s ∷ (task ∷ s) ∷ []) sets.items)) }
+/// The same sets with one task more decided, in front of those that were: each set without it and then with it, as far
+/// as its rule allows.
+fn decided(alloc: Global, rule: &Rule, numbers: &[u64]) -> Result<Vec<u64>, AllocError>
+    ensures { IfOk result (λ more. more.items
+        ≡ flat_map (with_next (can_lack rule.now.may_lack rule.now.wanting.items)
+        (can_hold rule.now.may_hold rule.now.wanted.items)) numbers.now) }
 {
     let mut more = Vec::new(alloc);
-    for set in sets {
-        let longer = with_front(alloc, task, set.as_slice())?;
-        keep_possible(&mut more, rules, undecided, set)?;
-        keep_possible(&mut more, rules, undecided, longer)?;
+    for number in numbers {
+        add_next(rule, *number, &mut more)?;
     }
     Ok(more)
 }
 
-/// Adds a set to a list where it can become feasible.
-fn keep_possible(
-    sets: &mut Vec<TaskList>,
-    rules: &Rules,
-    undecided: &[Task],
-    set: TaskList,
-) -> Result<(), AllocError>
-    ensures { OnOk result (sets.new.items ≡ sets.old.items ++ filter (can_be_feasible rules.now.op.now rules.now.split rules.now.dirs rules.now.tasks.now rules.now.pairs.now undecided.now) (set ∷ [])) }
+/// Adds the numbers of one set without the task and with it.
+fn add_next(rule: &Rule, number: u64, more: &mut Vec<u64>) -> Result<(), AllocError>
+    ensures { OnOk result (more.new.items ≡ more.old.items
+        ++ with_next (can_lack rule.now.may_lack rule.now.wanting.items)
+        (can_hold rule.now.may_hold rule.now.wanted.items) number) }
 {
-    if rules.can_be_feasible(undecided, set.as_slice()) {
-        sets.push(set)?;
+    let Some(without) = 2u64.checked_mul(number) else {
+        return Err(AllocError);
+    };
+    let Some(with) = without.checked_add(1) else {
+        return Err(AllocError);
+    };
+    push_if(rule.can_lack(number), without, more)?;
+    push_if(rule.can_hold(number), with, more)?;
+    Ok(())
+}
+
+/// Adds an item where a test holds.
+fn push_if<T: Drop>(test: bool, item: T, items: &mut Vec<T>) -> Result<(), AllocError>
+    ensures { OnOk result (items.new.items ≡ items.old.items ++ (if test then item ∷ [] else [])) }
+{
+    if test {
+        items.push(item)?;
     }
     Ok(())
 }
 
-/// A set with a task in front.
-fn with_front(alloc: Global, task: Task, set: &[Task]) -> Result<TaskList, AllocError>
-    ensures { IfOk result (λ longer. longer ≡ task ∷ set.now) }
+/// The sets with these numbers.
+fn sets_of(alloc: Global, tasks: &[Task], numbers: &[u64]) -> Result<Vec<TaskList>, AllocError>
+    ensures { IfOk result (λ sets. sets.items ≡ map (set_of tasks.now) numbers.now) }
 {
-    let mut longer = Vec::with_capacity(alloc, 1)?;
-    longer.push(task)?;
-    longer.extend_from_slice(set)?;
-    Ok(TaskList::from_vec(longer))
+    let mut sets = Vec::new(alloc);
+    for number in numbers {
+        sets.push(set_of(alloc, tasks, *number)?)?;
+    }
+    Ok(sets)
+}
+
+/// The set with a number.
+fn set_of(alloc: Global, tasks: &[Task], number: u64) -> Result<TaskList, AllocError>
+    ensures { IfOk result (λ set. set ≡ set_of tasks.now number) }
+{
+    let mut set = Vec::with_capacity(alloc, tasks.len())?;
+    let mut left = number;
+    for task in tasks {
+        push_if(left % 2 == 1, *task, &mut set)?;
+        left /= 2;
+    }
+    Ok(TaskList::from_vec(set))
 }

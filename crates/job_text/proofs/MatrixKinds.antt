@@ -55,7 +55,7 @@ unfolding last_at
 last_none end lines =
     then_none Memory (or_syntax (due_line end lines)) _ (line_none (due_line end lines)) (λ line. test_none Memory _ _ _ (syntax_told _) (value_none Memory _))
 
-grid_none : (end m rows cols : ℕ) (lines : List Line) → grid_at end m rows cols lines ≢ Err Memory
+pub grid_none : (end m rows cols : ℕ) (lines : List Line) → grid_at end m rows cols lines ≢ Err Memory
 grid_none end m rows cols lines =
     let due = if cols == 0 then 0 else rows in
     then_none Memory (rows_at end m cols due lines) _ (rows_none end m cols due lines) (λ entries.

@@ -1,3 +1,5 @@
+pub mod BlocksRead
+pub mod ClassNeeds
 pub mod EarlierTasks
 pub mod Joined
 pub mod NeedsFirst

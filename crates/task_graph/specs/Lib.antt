@@ -3,4 +3,5 @@ pub mod Factors
 pub mod Listing
 pub mod Needs
 pub mod Order
+pub mod Reads
 pub mod Tasks

@@ -4,7 +4,7 @@
 //! the block. `exists` says which tasks an operation has, `tasks` lists them in canonical order, `earlier` is that
 //! order, `needs` says which task needs which, and `class` is the task of a coarser cut (`Cut`) that a task is part
 //! of. `laws` says what their definitions mean together: the list has what exists, in a strict order that extends the
-//! needs.
+//! needs, and a task needs what it reads and, for a solve, the other tasks of its block.
 #![tactic(auto)]
 
 mod classes;

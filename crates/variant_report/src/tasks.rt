@@ -1,31 +1,58 @@
-ghost use Rattle.std.specs.Prelude.{◌≡◌, ◌++◌, OnOk};
+ghost use Rattle.std.specs.Prelude.{◌≡◌, ◌<◌, [], ◌∷◌, ◌++◌, decimal, OnOk};
 ghost use Rattle.variant_report.specs.TaskTexts.{pair_text, triple_text, task_text, tasks_text};
 
 use byte_texts::put_decimal;
 use operation_spec::{Kind, Task};
 use std::alloc::AllocError;
 
+/// The digit of a number below 10.
+fn digit(n: u32) -> u8
+    requires { n < 10 }
+    ensures { decimal n ≡ result ∷ [] }
+{
+    b'0' + n as u8
+}
+
+/// Appends a number.
+fn put_number(n: u32, out: &mut Vec<u8>) -> Result<(), AllocError>
+    ensures { OnOk result (out.new.items ≡ out.old.items ++ decimal n) }
+{
+    if n < 10 {
+        Ok(out.push(digit(n))?)
+    } else {
+        Ok(put_decimal(u64::from(n), out)?)
+    }
+}
+
+/// Appends two numbers in parentheses. Numbers of one digit go in one piece, since a family has many of them.
 fn put_pair(i: u32, j: u32, out: &mut Vec<u8>) -> Result<(), AllocError>
     ensures { OnOk result (out.new.items ≡ out.old.items ++ pair_text i j) }
 {
-    out.extend_from_slice(b"(")?;
-    put_decimal(u64::from(i), out)?;
-    out.extend_from_slice(b",")?;
-    put_decimal(u64::from(j), out)?;
-    out.extend_from_slice(b")")?;
+    if i < 10 && j < 10 {
+        return Ok(out.extend_from_slice(&[b'(', digit(i), b',', digit(j), b')'])?);
+    }
+    out.push(b'(')?;
+    put_number(i, out)?;
+    out.push(b',')?;
+    put_number(j, out)?;
+    out.push(b')')?;
     Ok(())
 }
 
+/// Appends three numbers in parentheses, in one piece where each has one digit.
 fn put_triple(i: u32, j: u32, k: u32, out: &mut Vec<u8>) -> Result<(), AllocError>
     ensures { OnOk result (out.new.items ≡ out.old.items ++ triple_text i j k) }
 {
-    out.extend_from_slice(b"(")?;
-    put_decimal(u64::from(i), out)?;
-    out.extend_from_slice(b",")?;
-    put_decimal(u64::from(j), out)?;
-    out.extend_from_slice(b",")?;
-    put_decimal(u64::from(k), out)?;
-    out.extend_from_slice(b")")?;
+    if i < 10 && j < 10 && k < 10 {
+        return Ok(out.extend_from_slice(&[b'(', digit(i), b',', digit(j), b',', digit(k), b')'])?);
+    }
+    out.push(b'(')?;
+    put_number(i, out)?;
+    out.push(b',')?;
+    put_number(j, out)?;
+    out.push(b',')?;
+    put_number(k, out)?;
+    out.push(b')')?;
     Ok(())
 }
 
@@ -37,7 +64,7 @@ fn put_task(task: Task, out: &mut Vec<u8>) -> Result<(), AllocError>
         Kind::Pivots => Ok(out.extend_from_slice(b"pivots")?),
         Kind::Term => {
             out.extend_from_slice(b"term")?;
-            put_decimal(u64::from(task.term), out)?;
+            put_number(task.term, out)?;
             Ok(put_triple(task.i, task.j, task.k, out)?)
         }
         Kind::Left => {

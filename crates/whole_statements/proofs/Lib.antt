@@ -1,7 +1,5 @@
-mod FactorProducts
-mod FilledRows
-mod GridResidues
-mod ProductRows
-mod StatementsSoFar
-mod TermSizes
-mod TermsSoFar
+mod BoundFactors
+mod BoundTerms
+mod DoneStatements
+mod FormOutcomes
+mod WholeEntries

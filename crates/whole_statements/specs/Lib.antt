@@ -1,2 +1,2 @@
-pub mod AddedTerms
-pub mod OrientedViews
+pub mod BoundOperations
+pub mod Outcomes

@@ -16,3 +16,7 @@ returns-in-Derive-clause-answers g c =
 pub returns-in-Run-clause-answers : goal.returns-in-Run-clause-answers
 returns-in-Run-clause-answers g c =
     Answers-wider _ _ (λ input status text is. inr (c.in-Ok-Some.command, rw c.in-Ok-Some.field-0-is at c.in-Ok-Some.ensures.found, is)) _ _ _ _ _ c.run_one_cmd.ensures.answers
+
+pub returns-in-Verify-clause-answers : goal.returns-in-Verify-clause-answers
+returns-in-Verify-clause-answers g c =
+    Answers-wider _ _ (λ input status text is. inr (c.in-Ok-Some.command, rw c.in-Ok-Some.field-0-is at c.in-Ok-Some.ensures.found, is)) _ _ _ _ _ c.verify_cmd.ensures.answers

@@ -2,4 +2,4 @@ use Rattle.equation.proofs.MeaningLengths.{left_count}
 use Rattle.flame_top.proofs.report.result_output.Goals as goal
 
 pub write_result-requires-clause-count : goal.write_result-requires-clause-count
-write_result-requires-clause-count c = left_count c.args.job.now c.in_ok-matrices.matrices c.in_ok-matrices.ensures
+write_result-requires-clause-count c = left_count c.args.job.now c.args.after.now c.requires.means

@@ -4,7 +4,7 @@ use Rattle.invariant_family.proofs.FewTasks.{AreFew-cut, tasks_of-few}
 use Rattle.invariant_family.proofs.laws.cuts_have_few_tasks.Goals as goal
 
 pub returns-clause-two : goal.returns-clause-two
-returns-clause-two c op split valid = tasks_of-few op (two_parts op split) valid.few_terms (AreFew-cut split (length op.dims) 2 (omega arith))
+returns-clause-two c op split valid = tasks_of-few 2 op (two_parts op split) valid.few_terms (AreFew-cut 2 split (length op.dims) (omega arith))
 
 pub returns-clause-three : goal.returns-clause-three
-returns-clause-three c op split valid = tasks_of-few op (three_parts op split) valid.few_terms (AreFew-cut split (length op.dims) 3 (omega arith))
+returns-clause-three c op split valid = tasks_of-few 3 op (three_parts op split) valid.few_terms (AreFew-cut 3 split (length op.dims) (omega arith))

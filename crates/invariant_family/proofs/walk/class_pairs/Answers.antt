@@ -1,5 +1,5 @@
 use Rattle.std.proofs.Common.{◌∙◌}
-use Rattle.invariant_family.proofs.GrowingSets.{class_pairs-from_cuts}
+use Rattle.invariant_family.proofs.Walks.{class_pairs-from_cuts}
 use Rattle.invariant_family.proofs.walk.class_pairs.Goals as goal
 
 pub returns : goal.returns

@@ -1,15 +1,14 @@
-use Rattle.whole_statements.proofs.StatementsSoFar.{fits_reached, reached_next}
+use Rattle.whole_statements.proofs.DoneStatements.{AreDone-more, fails_next}
 use Rattle.whole_statements.proofs.run.run_statements.Goals as goal
 
-pub assigned-requires-clause-fits : goal.assigned-requires-clause-fits
-assigned-requires-clause-fits c =
-    rw c.deref.ensures.value (fits_reached c.args.job.now c.requires.valid c.requires.assignments c.as_slice-statement-items.result.now c.as_slice-in-loop-statement.result.now
-    c.loop-statement.statement-index c.statement-item.result c.index-as_slice-statement.result c.as_slice-statement-items.ensures c.as_slice-in-loop-statement.ensures
-    c.loop-statement-test.true c.statement-item.is c.index-as_slice-statement.is c.loop-statement.matrices.items c.loop-statement.invariant.sizes)
+pub returns-in-Err : goal.returns-in-Err
+returns-in-Err c =
+    fails_next c.args.job.now c.requires c.as_slice-statement-items.result.now c.loop-at.at c.statement-item.result c.as_slice-statement-items.ensures
+    c.loop-at-test.true c.statement-item.is c.loop-at.matrices.items c.loop-at.invariant c.in-Err.place
+    (rw (c.in-Err.is, c.deref.ensures.value) at c.in_ok-solution.ensures)
 
-pub loop-statement-preserved : goal.loop-statement-preserved
-loop-statement-preserved c =
-    reached_next c.args.job.now c.requires.valid c.requires.assignments c.as_slice-statement-items.result.now c.as_slice-in-loop-statement.result.now
-    c.loop-statement.statement-index c.statement-item.result c.index-as_slice-statement.result c.as_slice-statement-items.ensures c.as_slice-in-loop-statement.ensures
-    c.loop-statement-test.true c.statement-item.is c.index-as_slice-statement.is c.loop-statement.matrices.items c.in_ok-solution.solution
-    c.loop-statement.invariant (rw c.deref.ensures.value at c.in_ok-solution.ensures)
+pub loop-at-preserved : goal.loop-at-preserved
+loop-at-preserved c =
+    AreDone-more c.args.job.now c.requires c.as_slice-statement-items.result.now c.loop-at.at c.statement-item.result c.as_slice-statement-items.ensures
+    c.loop-at-test.true c.statement-item.is c.loop-at.matrices.items c.loop-at.invariant _
+    (rw (c.in-Ok.is, c.deref.ensures.value) at c.in_ok-solution.ensures)

@@ -1,0 +1,7 @@
+-- Texts that are appended piece by piece.
+use Rattle.std.proofs.Common.{◌≡◌, ℕ, List, ◌++◌, refl, append_assoc}
+
+-- three words with numbers behind them, and an end
+pub joined_numbers : (out a x b y c z end one two three all : List ℕ) → one ≡ out ++ (a ++ x) → two ≡ one ++ (b ++ y) → three ≡ two ++ (c ++ z) → all ≡ three ++ end
+    → all ≡ out ++ (a ++ x ++ b ++ y ++ c ++ z ++ end)
+joined_numbers out a x b y c z end one two three all first second third last = rw (last, third, second, first) (simp append_assoc refl)
