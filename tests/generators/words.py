@@ -1,0 +1,60 @@
+"""Words, good and bad."""
+
+BAD_NUMBERS = ("0", "01", "+1", "-1", " 1", "1 ", "1.0", "", "x", "1025", "4294967297", "18446744073709551617",
+               "9" * 400, "1_0", "0x1", "\u0661", "\uff11", "1\t", "1,1", "1e1")
+# Small ones more often, since they cut into many parts.
+BLOCKS = (1,) * 8 + (2,) * 3 + (3, 3, 4, 5, 7, 8, 9, 10, 16, 31, 32, 33, 64, 99, 100, 101, 255, 256, 999, 1000, 1023,
+                                1024)
+
+
+def run_words(rng):
+    """The words of a run with one worker and any block size."""
+    block = rng.choice(BLOCKS) if rng.random() < 0.7 else rng.randrange(1, 1025)
+    return ["run", "--block", str(block), "--workers", "1"]
+
+
+def other_commands(rng):
+    """Words of every command, or near to one."""
+    return rng.choice((
+        ["derive"], ["check"], ["verify"], ["pme", "lu", "n"], ["pme", "mul", "m", "n"], ["worksheet", "lu", "1"],
+        ["make", "2", "101", "1"], ["selfrun", "2", "101", "1", "--block", "1", "--workers", "1"],
+        ["run"], ["run", "--block", "1"], ["run", "--workers", "1"], ["run", "--workers", "1", "--block", "1"],
+        ["run", "--block", "1", "--workers", "2"], ["run", "--block", "1", "--workers", "16"],
+        ["run", "--block", "1", "--workers", "17"], ["run", "--block", "1", "--workers", "0"],
+        ["run", "--block=1", "--workers=1"], ["run", "-block", "1", "-workers", "1"],
+        ["run", "--block", "1", "--workers", "1", "--trace"], ["run", "--block", "1", "--workers", "1", "--variants"],
+        ["run", "--block", "1", "--workers", "1", "--variants", "1"],
+        ["run", "--block", "1", "--workers", "1", "--variants", "1", "--trace"],
+        ["run", "--block", "1", "--workers", "1", "--trace", "--variants", "1"],
+        ["derive", "derive"], ["derive", "extra"], ["derive", ""], ["Derive"], ["DERIVE"], ["deriv"], ["derive "],
+        [" derive"], ["--derive"], [], [""], ["", "derive"], ["verify", "x"], ["check", "json"], ["audit"],
+        ["invert", "A", "lower", "--block", "1", "--workers", "1"], ["--version"], ["-"], ["--"], ["version"],
+        [b"\xff"], [b"derive\xff"], ["derive", b"\xfe"], [b"\xc3\x28", "--block", "1", "--workers", "1"],
+        ["run", "--block", b"1\xff", "--workers", "1"], ["run", "--block", "1", "--workers", "1", b"\x80"],
+    ))
+
+
+def any_words(rng):
+    """Words with a fault, at times without one."""
+    chance = rng.random()
+    if chance < 0.45:
+        return other_commands(rng)
+    words = run_words(rng) if chance < 0.9 else ["derive"]
+    change = rng.randrange(8)
+    at = rng.randrange(len(words))
+    if change == 0:
+        words.insert(rng.randrange(len(words) + 1), rng.choice(("", "1", "extra", "--trace", "--block", "x")))
+    elif change == 1:
+        del words[at]
+    elif change == 2:
+        other = rng.randrange(len(words))
+        words[at], words[other] = words[other], words[at]
+    elif change == 3:
+        words[at] += rng.choice((" ", "x", "0", "\u00e9", "_"))
+    elif change == 4:
+        words[at] = words[at].upper()
+    elif len(words) > 2 and change in (5, 6):
+        words[2] = rng.choice(BAD_NUMBERS)
+    elif len(words) > 4:
+        words[4] = rng.choice(BAD_NUMBERS)
+    return words

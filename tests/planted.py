@@ -1,0 +1,158 @@
+"""Bodies that give up: for each, the cases of a run that it would fail.
+
+A program may always answer that memory ran out, so a body that gives up on some inputs breaks no contract. Each entry
+of BODIES says on which inputs such a body gives up (or errs otherwise); this script counts the cases of
+`tests/run.sh` among them, names the first ones, and ends with 1 where a body has none.
+
+    python3 tests/planted.py [--count N] [--whole]
+"""
+
+import argparse
+import os
+import sys
+from concurrent.futures import ProcessPoolExecutor
+from dataclasses import dataclass
+from pathlib import Path
+
+HERE = Path(__file__).resolve().parent
+sys.path.insert(0, str(HERE))
+
+from built import BUILT, WHOLE  # noqa: E402
+from generate import generated_case  # noqa: E402
+from reference.due import due  # noqa: E402
+from reference.faults import Fault  # noqa: E402
+from reference.job_text import read_job  # noqa: E402
+from reference.scanner import before, scan  # noqa: E402
+
+
+@dataclass
+class Seen:
+    """A case with what is due, and its job where its text has no fault."""
+
+    words: list
+    data: bytes
+    status: int
+    output: bytes
+    job: object
+
+    def does(self, command):
+        """Whether the case runs this command and is answered with an outcome."""
+        return self.words[:1] == [command] and self.job is not None and self.status in (0, 4, 7, 8)
+
+    def statements(self):
+        """The statements of a run that is done."""
+        return self.job.statements if self.does("run") else []
+
+    def factors(self):
+        """Each operand that is a factor of a term in a run, with its matrix."""
+        return [(statement.operation.knowns[factor.known], self.job.matrices[statement.knowns[factor.known]])
+                for statement in self.statements() for term in statement.operation.terms
+                for factor in (term.first, term.second)]
+
+    def derived(self):
+        """The operations whose families are printed."""
+        return self.job.operations if self.does("derive") else []
+
+    def refused_line(self):
+        """The kind and the line of a refused text, or None."""
+        parts = self.output.decode("ascii").split()
+        return (parts[1], int(parts[3])) if self.status == 3 and parts[2:3] == ["line"] else None
+
+
+def has_factor(structure):
+    """A body that gives up where a factor has this structure."""
+    return lambda seen: any(operand.structure == structure for operand, _ in seen.factors())
+
+
+def has_form(form):
+    """A body that gives up where a statement has this form."""
+    return lambda seen: any(statement.operation.form == form for statement in seen.statements())
+
+
+def variants(seen):
+    """The greatest number of variants that is printed for an operation."""
+    if not seen.derived():
+        return 0
+    return max(int(line.split()[1]) for line in seen.output.decode().split("\n") if line.startswith("variants "))
+
+
+BODIES = {
+    "statements with a factor of more than three rows": lambda s: any(m.rows > 3 for _, m in s.factors()),
+    "statements with a lower factor": has_factor("lower"),
+    "statements with a unitlower factor": has_factor("unitlower"),
+    "statements with an upper factor": has_factor("upper"),
+    "statements with a unitupper factor": has_factor("unitupper"),
+    "statements with a diagonal factor": has_factor("diagonal"),
+    "statements with a symmetric factor": has_factor("symmetric"),
+    "families of more than three dimensions": lambda s: any(len(made.dims) > 3 for made in s.derived()),
+    "families of two terms": lambda s: any(len(made.terms) == 2 for made in s.derived()),
+    "families of no term": lambda s: any(not made.terms for made in s.derived()),
+    "copies of more than eight rows": lambda s: any(s.job.matrices[t.work].rows > 8 for t in s.statements()),
+    "matrices of 40 by 33 or more": lambda s: any(
+        s.job.matrices[t.work].rows * s.job.matrices[t.work].cols >= 1320 for t in s.statements()),
+    "operations with four dimensions": lambda s: any(len(made.dims) == 4 for made in s.derived()) or any(
+        len(t.operation.dims) == 4 for t in s.statements()),
+    "derive of two operations": lambda s: len(s.derived()) > 1,
+    "run of four statements": lambda s: len(s.statements()) > 3,
+    "run with a block above 1": lambda s: s.does("run") and s.words[2] != "1",
+    "run with eight matrices": lambda s: s.does("run") and len(s.job.matrices) > 7,
+    "families of more than six variants": lambda s: variants(s) > 6,
+    "more than three prints": lambda s: s.does("run") and len(s.job.prints) > 3,
+    "a bad byte behind line 20": lambda s: (s.refused_line() or ("", 0))[0] == "BadByte" and s.refused_line()[1] > 20,
+    "refusals of inputs above 400 bytes": lambda s: s.refused_line() and len(s.data) > 400,
+    "main: the status is dropped": lambda s: s.status != 0,
+    "main: words behind the fifth are dropped": lambda s: s.status == 2 and len(s.words) > 5
+    and s.words[:2] == ["run", "--block"] and s.words[3:5] == ["--workers", "1"],
+    "main: derive always runs out of memory": lambda s: s.does("derive"),
+    "main: unreadable words end with 0": lambda s: any(isinstance(word, bytes) for word in s.words),
+    "main: no words end with 0": lambda s: not s.words,
+}
+
+FORM_BODIES = {
+    "statements of the form right": has_form("right"),
+    "statements of the form left": has_form("left"),
+    "statements of the form sylvester": has_form("sylvester"),
+    "statements of the form lu": has_form("lu"),
+    "statements of the form ldl": has_form("ldl"),
+    "a bad pivot behind statement 1": lambda s: s.status == 4 and s.output.split()[3] != b"1",
+    "a bad pivot behind row 0": lambda s: s.status == 4 and s.output.split()[5] != b"0",
+    "verify that finds all right": lambda s: s.does("verify") and s.status == 0,
+    "verify that finds a difference": lambda s: s.status == 8,
+    "verify of another statement than the first": lambda s: s.status == 8 and s.output.split()[2] != b"1",
+}
+
+
+def seen(built, index):
+    """The generated case of this number as it is looked at."""
+    case = generated_case("1", index, built)
+    status, output = due(case.words, case.data, built)
+    job = None
+    try:
+        text = scan(case.data)
+        job = read_job(before(text, "after")[0] if case.words == ["verify"] else text)
+    except Fault:
+        pass
+    one = Seen(case.words, case.data, status, output, job)
+    bodies = {**BODIES, **FORM_BODIES}
+    return case.name, [name for name, gives_up in bodies.items() if gives_up(one)]
+
+
+def main():
+    """Prints a line for each body: how many cases refuse it, and the first of them."""
+    parser = argparse.ArgumentParser()
+    parser.add_argument("--count", type=int, default=700)
+    parser.add_argument("--whole", action="store_true")
+    arguments = parser.parse_args()
+    built = WHOLE if arguments.whole else BUILT
+    with ProcessPoolExecutor(len(os.sched_getaffinity(0))) as pool:
+        found = list(pool.map(seen, [built] * arguments.count, range(arguments.count), chunksize=20))
+    missed = 0
+    for body in list(BODIES) + (list(FORM_BODIES) if built.run_every_form and built.verify else []):
+        cases = [name for name, refused in found if body in refused]
+        missed += not cases
+        print(f"{body}: {len(cases)} cases, {', '.join(cases[:3])}")
+    return 1 if missed else 0
+
+
+if __name__ == "__main__":
+    sys.exit(main())

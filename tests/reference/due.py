@@ -1,0 +1,71 @@
+"""The status and the text that are due for words and an input."""
+
+from .families import family_text
+from .faults import Fault, Refusal
+from .job_text import read_after, read_job
+from .matrix_text import matrix_text
+from .meaning import first_difference, meaning
+from .model import BadPivot
+from .scanner import before, scan
+from .steps import refuse_too_many
+from .words import read_words
+
+INPUT_LIMIT = 67_108_864
+
+
+def due(words, data, built):
+    """The exit status and the bytes of the output. `built` says what the program has by now."""
+    command = read_words(words)
+    if command is None or not built.has(command):
+        return 2, b"bad words\n"
+    try:
+        if len(data) > INPUT_LIMIT:
+            raise Refusal("TooLong")
+        status, text = COMMANDS[command.name](command, scan(data), built)
+    except (Fault, Refusal) as refused:
+        status, text = 3, refused.text() + "\n"
+    return status, text.encode("ascii")
+
+
+def derive(_command, text, built):
+    """The family of each operation."""
+    job = read_job(text)
+    if not built.derive_every_form:
+        for operation in job.operations:
+            refuse_other_families(operation)
+    return 0, "".join(family_text(operation, built.derive_every_form) for operation in job.operations)
+
+
+def refuse_other_families(operation):
+    """NotBuilt where an operation isn't of the form Assign with general operands."""
+    plain = all(operand.structure == "general" for operand in operation.operands())
+    if operation.form != "assign" or not plain:
+        raise Refusal(f"NotBuilt operation {operation.name}")
+
+
+def run(command, text, built):
+    """The printed matrices of a job, or its first bad pivot."""
+    job = read_job(text)
+    if not built.run_every_form:
+        for number, statement in enumerate(job.statements, 1):
+            if statement.operation.form != "assign":
+                raise Refusal(f"NotBuilt statement {number}")
+    if built.block_sizes:
+        refuse_too_many(job, command.parts["block"])
+    matrices = meaning(job)
+    if isinstance(matrices, BadPivot):
+        return 4, "no inverse statement {} row {} column {}\n".format(*matrices)
+    return 0, "".join(matrix_text(job.names[number], matrices[number]) for number in job.prints)
+
+
+def verify(_command, text, _built):
+    """Whether each statement's equation holds for the matrices that stand behind the job."""
+    of_job, rest = before(text, "after")
+    job = read_job(of_job)
+    difference = first_difference(job, read_after(rest, text.end, job))
+    if difference is not None:
+        return 8, "differs statement {} row {} column {}\n".format(*difference)
+    return 0, f"verified {len(job.statements)}\n"
+
+
+COMMANDS = {"derive": derive, "run": run, "verify": verify}

@@ -1,0 +1,154 @@
+"""Runs the built program on the kept, the fixed and the generated cases, and compares output and status.
+
+    python3 tests/run.py [--seed S] [--count N] [--only NUMBER] [--case FOLDER ..] [--whole]
+"""
+
+import argparse
+import os
+import subprocess
+import sys
+import time
+from concurrent.futures import ProcessPoolExecutor
+from contextlib import ExitStack
+from functools import lru_cache
+from pathlib import Path
+
+HERE = Path(__file__).resolve().parent
+sys.path.insert(0, str(HERE))
+
+from built import BUILT, WHOLE  # noqa: E402
+from case import Case, encoded, load, save  # noqa: E402
+from generate import generated_case  # noqa: E402
+from generators.cuts import cut_cases  # noqa: E402
+from generators.grids import grid_cases  # noqa: E402
+from generators.limits import limit_cases  # noqa: E402
+from generators.pivots import pivot_cases  # noqa: E402
+from generators.streams import stream_cases  # noqa: E402
+from reference.due import due  # noqa: E402
+
+LEAST = 500
+SECONDS = 60
+
+
+def answer(program, case):
+    """The status and the output of the program."""
+    command = [program, *(encoded(word) for word in case.words)]
+    source, sink = {"input": case.data}, subprocess.PIPE
+    with ExitStack() as opened:
+        if case.streams == "unreadable":
+            # A folder can be opened, and each read of it fails.
+            source = {"stdin": os.open("/", os.O_RDONLY)}
+            opened.callback(os.close, source["stdin"])
+        if case.streams == "unwritable":
+            sink = opened.enter_context(open("/dev/full", "wb"))
+        try:
+            if case.streams == "pieces":
+                return in_pieces(command, case.data)
+            done = subprocess.run(command, stdout=sink, stderr=subprocess.DEVNULL, timeout=SECONDS, **source)
+        except subprocess.TimeoutExpired:
+            return f"none within {SECONDS} s", b""
+    return done.returncode, done.stdout or b""
+
+
+def in_pieces(command, data):
+    """The answer to an input of which 7 bytes come at a time."""
+    running = subprocess.Popen(command, stdin=subprocess.PIPE, stdout=subprocess.PIPE, stderr=subprocess.DEVNULL,
+                               bufsize=0)
+    try:
+        for at in range(0, len(data), 7):
+            running.stdin.write(data[at:at + 7])
+            time.sleep(0.001)
+    except BrokenPipeError:
+        pass
+    output, _ = running.communicate(timeout=SECONDS)
+    return running.returncode, output
+
+
+def compared(program, case, status, output):
+    """None where the program answers what is due, else a line about the difference; a failed case is written."""
+    found_status, found = answer(program, case)
+    if (found_status, found) == (status, output):
+        return None
+    folder = HERE / "failed" / "".join(c if c.isalnum() or c in "-_" else "_" for c in case.name)
+    save(folder, case, status, output)
+    (folder / "found-stdout").write_bytes(found)
+    (folder / "found-status").write_text(f"{found_status}\n")
+    return (f"FAILED {case.name}: due {status} {beginning(output)}, found {found_status} {beginning(found)}; "
+            f"see {folder.relative_to(HERE.parent)}")
+
+
+def beginning(output):
+    """The first bytes of an output, for a line about it."""
+    return repr(output[:60])[1:] + (".." if len(output) > 60 else "")
+
+
+def kept(program, folder):
+    """Runs a kept case, whose folder says what is due."""
+    case, status, output = load(folder)
+    return compared(program, case, status, output)
+
+
+def generated(program, built, seed, index):
+    """Runs a generated case, for which the reference says what is due."""
+    try:
+        case = generated_case(seed, index, built)
+        return compared(program, case, *due(case.words, case.data, built))
+    except Exception as wrong:  # An error of the generator or the reference is a failed case, too.
+        return f"FAILED {seed}-{index}: {type(wrong).__name__}: {wrong}"
+
+
+@lru_cache
+def fixed_cases(built):
+    """The cases that are the same in every run, each with the answer that is due, or None where the reference says it;
+    made once, before the processes of the pool begin."""
+    cases = [*limit_cases(), *grid_cases(built), *pivot_cases(), *cut_cases(built)]
+    return [(case, None) for case in cases] + list(stream_cases())
+
+
+def fixed(program, built, number):
+    """Runs a fixed case."""
+    case, known = fixed_cases(built)[number]
+    if callable(case.data):
+        case = Case(case.name, case.words, case.data())
+    return compared(program, case, *(known or due(case.words, case.data, built)))
+
+
+def all_cases(arguments, built):
+    """What is to be run: a function with its arguments behind the program's name."""
+    if arguments.case:
+        return [(kept, Path(folder)) for folder in arguments.case]
+    if arguments.only is not None:
+        return [(generated, built, arguments.seed, arguments.only)]
+    folders = sorted(path.parent for path in (HERE / "cases").glob("*/status"))
+    ready = [folder for folder in folders if built.meets(load(folder)[0].needs)]
+    if len(ready) < len(folders):
+        print(f"{len(folders) - len(ready)} kept cases wait for what isn't built yet")
+    same = [(fixed, built, number) for number in range(len(fixed_cases(built)))]
+    drawn = [(generated, built, arguments.seed, index) for index in range(arguments.count)]
+    return same + drawn + [(kept, folder) for folder in ready]
+
+
+def main():
+    """Runs all cases; the exit status is 0 where none failed and at least 500 ran."""
+    parser = argparse.ArgumentParser(description="Runs the built program on kept and generated cases.")
+    parser.add_argument("--seed", default="1")
+    parser.add_argument("--count", type=int, default=700)
+    parser.add_argument("--only", type=int, help="runs the generated case of this number alone")
+    parser.add_argument("--case", nargs="+", help="runs the kept or failed cases of these folders alone")
+    parser.add_argument("--whole", action="store_true", help="takes everything as built")
+    arguments = parser.parse_args()
+    built = WHOLE if arguments.whole else BUILT
+    program = os.environ.get("FLAME") or str(HERE.parent / "flame")
+    cases = all_cases(arguments, built)
+    with ProcessPoolExecutor(len(os.sched_getaffinity(0))) as pool:
+        waiting = [pool.submit(function, program, *rest) for function, *rest in cases]
+        failures = [line for line in (one.result() for one in waiting) if line]
+    for line in failures:
+        print(line)
+    print(f"{len(cases) - len(failures)} passed, {len(failures)} failed")
+    alone = arguments.case or arguments.only is not None
+    return 0 if not failures and (alone or len(cases) >= LEAST) else 1
+
+
+if __name__ == "__main__":
+    sys.exit(main())
