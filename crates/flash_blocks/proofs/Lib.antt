@@ -1,0 +1,6 @@
+pub mod Cuts
+mod FirstRows
+mod Pieces
+pub mod Places
+pub mod TableGrids
+mod WorkedCuts
