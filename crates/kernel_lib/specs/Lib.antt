@@ -1,8 +1,3 @@
-pub mod BadPlaces
-pub mod Changes
-pub mod ColumnFactors
-pub mod Conditions
-pub mod LineSystems
-pub mod PanelRows
-pub mod ProductFactors
-pub mod SylvesterSystems
+pub use Rattle.part_factors.specs.declared.bad_pivot.BadPivot
+pub use Rattle.part_factors.specs.BadPlaces
+pub use Rattle.part_solves.specs.Conditions

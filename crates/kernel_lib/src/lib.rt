@@ -2,40 +2,11 @@
 //!
 //! Each kernel leaves in the part that it writes the one solution of its own small equation (`IsValue` and the words of
 //! `equation/specs/Kernels`), touches no entry outside the part or outside the structure that it is told, and names the
-//! first pivot that is no unit where it may meet one. Inside, a kernel copies lines of its operands into buffers on the
-//! stack (`lines`) and sums products along them (`row_products`), and reduces each sum once.
+//! first pivot that is no unit where it may meet one. The kernels stand in three crates that don't know each other: products
+//! (`part_updates`), systems (`part_solves`) and pivots with factors (`part_factors`). Inside, each copies lines of its operands
+//! into buffers on the stack (`operand_lines`), sums products along them (`row_products`), and reduces each sum once.
 #![tactic(auto)]
 
-mod bad_pivot;
-mod changes;
-mod ldl;
-mod ldl_columns;
-mod ldl_pieces;
-mod ldl_solves;
-mod line_solves;
-mod line_systems;
-mod lines;
-mod lu;
-mod lu_columns;
-mod lu_pieces;
-mod pair_pivots;
-mod panel_rows;
-mod panel_solves;
-mod pivot_lists;
-mod pivots_met;
-mod plain_solves;
-mod solves;
-mod sylvester;
-mod sylvester_pieces;
-mod sylvester_solves;
-mod updates;
-
-pub use bad_pivot::BadPivot;
-pub use ldl::factor_ldl;
-pub use ldl_solves::solve_right_ldl;
-pub use lu::factor_lu;
-pub use pair_pivots::pivots_sylvester;
-pub use pivot_lists::pivots;
-pub use solves::{solve_left, solve_right};
-pub use sylvester::solve_sylvester;
-pub use updates::{update, update_ldl};
+pub use part_factors::{BadPivot, factor_ldl, factor_lu, pivots, pivots_sylvester};
+pub use part_solves::{solve_left, solve_right, solve_right_ldl, solve_sylvester};
+pub use part_updates::{update, update_ldl};

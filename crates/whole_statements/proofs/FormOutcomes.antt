@@ -15,8 +15,8 @@ use Rattle.equation.specs.Kernels.{IsFactoredLdl, IsFactoredLu, IsSolvedLeft, Is
 use Rattle.equation.specs.Pivots.{IsBadForLdl, IsBadForLu, IsFirstByRows, IsFirstOnDiagonal}
 use Rattle.equation.proofs.FactorSizes.{left_known, right_known, sylvester_knowns}
 use Rattle.equation.proofs.KernelStatements.{IsFirstBadPivot-ldl, IsFirstBadPivot-lu, Satisfies-factored_ldl, Satisfies-factored_lu, Satisfies-right_side, Satisfies-solved_left, Satisfies-solved_right, Satisfies-solved_sylvester, no_bad_pivot-ldl, no_bad_pivot-lu}
-use Rattle.equation.proofs.ValidForms.{ldl-square, left-on, lu-square, right-on, sylvester-on}
-use Rattle.kernel_lib.specs.declared.bad_pivot.BadPivot.{BadPivot}
+use Rattle.equation.proofs.ValidForms.{IsTriangleOn, ldl-square, left-on, lu-square, right-on, sylvester-on}
+use Rattle.kernel_lib.specs.BadPivot.{BadPivot}
 use Rattle.kernel_lib.specs.BadPlaces.{pair_pivots, place_of}
 use Rattle.kernel_lib.specs.Conditions.{HasInverses, HasInversesOfPairs}
 use Rattle.whole_statements.specs.declared.bound.BoundOperation.{BoundOperation}
@@ -69,6 +69,40 @@ IsSolvedLeft-same b a c old new tables solved = rw (← tables) solved
 IsSolvedRight-same : (b : BoundOperation) (a c : Table) (old new : Grid) → a ≡ c → IsSolvedRight b.m b.op.now.work.structure a old new → IsSolvedRight b.m b.op.now.work.structure c old new
 IsSolvedRight-same b a c old new tables solved = rw (← tables) solved
 
+-- a triangular factor on one side of the unknown: on the dimension dim, of n entries, of which the right side has k
+pub record IsSide (b : BoundOperation) (is : IsBound b) (dim n k : ℕ) (t : Factor) : Type 0 where
+  pub known : t.known < length b.op.now.knowns
+  pub on : IsTriangleOn b.op.now dim t
+  pub whole : n ≡ is.fits.lengths dim
+  pub size : k ≡ n
+
+module _ {b : BoundOperation} {is : IsBound b} {dim n k : ℕ} {t : Factor} (side : IsSide b is dim n k t) (o : Oper) (factor : IsFactor b t o) where
+  side_size : op_rows o ≡ n
+  side_size = triangle_op_rows b is dim t side.known side.on o factor ∙ sym side.whole
+
+  pub side_rows : op_rows o ≡ k
+  side_rows = side_size ∙ sym side.size
+
+  pub side_cols : op_cols o ≡ k
+  side_cols = triangle_op_cols b is dim t side.known side.on o factor ∙ sym side.whole ∙ sym side.size
+
+  pub side_structure : IsTriangular o.structure
+  side_structure = triangle_structure b is dim t side.known side.on o factor
+
+  -- its first bad pivot, and that of the matrix it is bound to
+  pub side_first : (place : Place) → IsFirstOf b.m o place → IsFirstOnDiagonal b.m n (λ i. factor_table b.op.now (knowns_of b) t i i) place
+  side_first place = IsFirstOnDiagonal-same b.m (op_rows o) n (op_table o) (factor_table b.op.now (knowns_of b) t) place side_size (table_is b t o factor)
+
+  pub first_of_side : (place : Place) → IsFirstOnDiagonal b.m n (λ i. factor_table b.op.now (knowns_of b) t i i) place → IsFirstOf b.m o place
+  first_of_side place = IsFirstOnDiagonal-same b.m n (op_rows o) (factor_table b.op.now (knowns_of b) t) (op_table o) place (sym side_size) (sym (table_is b t o factor))
+
+  -- the inverses of its pivots, as another reading of the same factor asks for them
+  pub side_inverses : (again : Oper) → IsFactor b t again → (numbers : List ℕ) (row : Grid) (c : ℕ) → c ≡ k → row ≡ record { rows = 1; cols = c; entries = numbers }
+      → HasInverses b.m (op_rows o) (op_table o) (record { rows = 1; cols = op_rows o; entries = numbers }) → HasInverses b.m k (op_table again) row
+  side_inverses again again_is numbers row c size row_is has =
+      HasInverses-same b.m (op_rows o) k c (op_table o) (op_table again) numbers row side_rows size
+      (table_is b t o factor ∙ sym (table_is b t again again_is)) row_is has
+
 module _ (b : BoundOperation) (is : IsBound b) (old : Grid) (right : HasRight b old) where
   pub right_square : b.op.now.work.structure ≢ General → old.rows ≡ old.cols
   right_square ne = right.rows ∙ work_square b is ne ∙ sym right.cols
@@ -83,111 +117,77 @@ module _ (b : BoundOperation) (is : IsBound b) (old : Grid) (right : HasRight b 
 
   -- ---- T * X = R
 
-  module _ (t : Factor) (form : b.op.now.form ≡ Left t) (o : Oper) (factor : IsFactor b t o) where
-    left_size : op_rows o ≡ (work_of b).rows
-    left_size = triangle_op_rows b is b.op.now.work.rows t (left_known b.op.now is.valid t form) (left-on b.op.now is.valid t form) o factor ∙ sym is.fits.work.rows
+  module _ (t : Factor) (form : b.op.now.form ≡ Left t) where
+    pub left_side : IsSide b is b.op.now.work.rows (work_of b).rows old.rows t
+    left_side = record {
+      known = left_known b.op.now is.valid t form;
+      on = left-on b.op.now is.valid t form;
+      whole = is.fits.work.rows;
+      size = right.rows;
+    }
 
-    pub left_rows : op_rows o ≡ old.rows
-    left_rows = left_size ∙ sym right.rows
+    pub left_bad : (o : Oper) → IsFactor b t o → (place : Place) → IsFirstOf b.m o place → IsBad b place
+    left_bad o factor place first = rw form (side_first left_side o factor place first)
 
-    pub left_cols : op_cols o ≡ old.rows
-    left_cols =
-        triangle_op_cols b is b.op.now.work.rows t (left_known b.op.now is.valid t form) (left-on b.op.now is.valid t form) o factor ∙ sym is.fits.work.rows ∙ sym right.rows
-
-    pub left_structure : IsTriangular o.structure
-    left_structure = triangle_structure b is b.op.now.work.rows t (left_known b.op.now is.valid t form) (left-on b.op.now is.valid t form) o factor
-
-    pub left_bad : (place : Place) → IsFirstOf b.m o place → IsBad b place
-    left_bad place first =
-        rw form (IsFirstOnDiagonal-same b.m (op_rows o) (work_of b).rows (op_table o) (factor_table b.op.now (knowns_of b) t) place left_size (table_is b t o factor) first)
-
-    pub left_pivots : ((place : Place) → ¬ (IsFirstOf b.m o place)) → (place : Place) → ¬ (IsBad b place)
-    left_pivots none place bad =
+    pub left_pivots : (o : Oper) → IsFactor b t o → ((place : Place) → ¬ (IsFirstOf b.m o place)) → (place : Place) → ¬ (IsBad b place)
+    left_pivots o factor none place bad =
         let first : IsFirstOnDiagonal b.m (work_of b).rows (λ i. factor_table b.op.now (knowns_of b) t i i) place = rw form at bad in
-        none place
-        (IsFirstOnDiagonal-same b.m (work_of b).rows (op_rows o) (factor_table b.op.now (knowns_of b) t) (op_table o) place (sym left_size) (sym (table_is b t o factor)) first)
+        none place (first_of_side left_side o factor place first)
 
-    pub left_satisfies : (new : Grid) → IsSolvedLeft b.m b.op.now.work.structure (op_table o) old new
+    pub left_satisfies : (o : Oper) → IsFactor b t o → (new : Grid) → IsSolvedLeft b.m b.op.now.work.structure (op_table o) old new
         → Satisfies b.m b.op.now (knowns_of b) (work_of b) new
-    left_satisfies new solved = Satisfies-solved_left b.m b.op.now is.valid (knowns_of b) (work_of b) old right new t form
+    left_satisfies o factor new solved = Satisfies-solved_left b.m b.op.now is.valid (knowns_of b) (work_of b) old right new t form
         (IsSolvedLeft-same b (op_table o) (factor_table b.op.now (knowns_of b) t) old new (table_is b t o factor) solved)
-
-    -- the inverses of its pivots, as another reading of the same factor asks for them
-    pub left_inverses : (again : Oper) → IsFactor b t again → (numbers : List ℕ) (row : Grid) (n : ℕ) → n ≡ old.rows → row ≡ record { rows = 1; cols = n; entries = numbers }
-        → HasInverses b.m (op_rows o) (op_table o) (record { rows = 1; cols = op_rows o; entries = numbers }) → HasInverses b.m old.rows (op_table again) row
-    left_inverses again again_is numbers row n size row_is has =
-        HasInverses-same b.m (op_rows o) old.rows n (op_table o) (op_table again) numbers row left_rows size
-        (table_is b t o factor ∙ sym (table_is b t again again_is)) row_is has
 
   -- ---- X * T = R
 
-  module _ (t : Factor) (form : b.op.now.form ≡ Right t) (o : Oper) (factor : IsFactor b t o) where
-    right_size : op_rows o ≡ (work_of b).cols
-    right_size = triangle_op_rows b is b.op.now.work.cols t (right_known b.op.now is.valid t form) (right-on b.op.now is.valid t form) o factor ∙ sym is.fits.work.cols
+  module _ (t : Factor) (form : b.op.now.form ≡ Right t) where
+    pub right_side : IsSide b is b.op.now.work.cols (work_of b).cols old.cols t
+    right_side = record {
+      known = right_known b.op.now is.valid t form;
+      on = right-on b.op.now is.valid t form;
+      whole = is.fits.work.cols;
+      size = right.cols;
+    }
 
-    pub right_rows : op_rows o ≡ old.cols
-    right_rows = right_size ∙ sym right.cols
+    pub right_bad : (o : Oper) → IsFactor b t o → (place : Place) → IsFirstOf b.m o place → IsBad b place
+    right_bad o factor place first = rw form (side_first right_side o factor place first)
 
-    pub right_cols : op_cols o ≡ old.cols
-    right_cols =
-        triangle_op_cols b is b.op.now.work.cols t (right_known b.op.now is.valid t form) (right-on b.op.now is.valid t form) o factor ∙ sym is.fits.work.cols ∙ sym right.cols
-
-    pub right_structure : IsTriangular o.structure
-    right_structure = triangle_structure b is b.op.now.work.cols t (right_known b.op.now is.valid t form) (right-on b.op.now is.valid t form) o factor
-
-    pub right_bad : (place : Place) → IsFirstOf b.m o place → IsBad b place
-    right_bad place first =
-        rw form (IsFirstOnDiagonal-same b.m (op_rows o) (work_of b).cols (op_table o) (factor_table b.op.now (knowns_of b) t) place right_size (table_is b t o factor) first)
-
-    pub right_pivots : ((place : Place) → ¬ (IsFirstOf b.m o place)) → (place : Place) → ¬ (IsBad b place)
-    right_pivots none place bad =
+    pub right_pivots : (o : Oper) → IsFactor b t o → ((place : Place) → ¬ (IsFirstOf b.m o place)) → (place : Place) → ¬ (IsBad b place)
+    right_pivots o factor none place bad =
         let first : IsFirstOnDiagonal b.m (work_of b).cols (λ i. factor_table b.op.now (knowns_of b) t i i) place = rw form at bad in
-        none place
-        (IsFirstOnDiagonal-same b.m (work_of b).cols (op_rows o) (factor_table b.op.now (knowns_of b) t) (op_table o) place (sym right_size) (sym (table_is b t o factor)) first)
+        none place (first_of_side right_side o factor place first)
 
-    pub right_satisfies : (new : Grid) → IsSolvedRight b.m b.op.now.work.structure (op_table o) old new
+    pub right_satisfies : (o : Oper) → IsFactor b t o → (new : Grid) → IsSolvedRight b.m b.op.now.work.structure (op_table o) old new
         → Satisfies b.m b.op.now (knowns_of b) (work_of b) new
-    right_satisfies new solved = Satisfies-solved_right b.m b.op.now is.valid (knowns_of b) (work_of b) old right new t form
+    right_satisfies o factor new solved = Satisfies-solved_right b.m b.op.now is.valid (knowns_of b) (work_of b) old right new t form
         (IsSolvedRight-same b (op_table o) (factor_table b.op.now (knowns_of b) t) old new (table_is b t o factor) solved)
-
-    -- the inverses of its pivots, as another reading of the same factor asks for them
-    pub right_inverses : (again : Oper) → IsFactor b t again → (numbers : List ℕ) (row : Grid) (n : ℕ) → n ≡ old.cols → row ≡ record { rows = 1; cols = n; entries = numbers }
-        → HasInverses b.m (op_rows o) (op_table o) (record { rows = 1; cols = op_rows o; entries = numbers }) → HasInverses b.m old.cols (op_table again) row
-    right_inverses again again_is numbers row n size row_is has =
-        HasInverses-same b.m (op_rows o) old.cols n (op_table o) (op_table again) numbers row right_rows size
-        (table_is b t o factor ∙ sym (table_is b t again again_is)) row_is has
 
   -- ---- T * X + X * U = R, or T * X - X * U = R
 
-  module _ (t u : Factor) (negative : Bool) (form : b.op.now.form ≡ Sylvester t u negative) (o p : Oper) (first : IsFactor b t o) (second : IsFactor b u p) where
-    knowns_in : (t.known < length b.op.now.knowns) × (u.known < length b.op.now.knowns)
-    knowns_in = sylvester_knowns b.op.now is.valid t u negative form
+  module _ (t u : Factor) (negative : Bool) (form : b.op.now.form ≡ Sylvester t u negative) where
+    pub first_side : IsSide b is b.op.now.work.rows (work_of b).rows old.rows t
+    first_side = record {
+      known = (sylvester_knowns b.op.now is.valid t u negative form).0;
+      on = (sylvester-on b.op.now is.valid t u negative form).0;
+      whole = is.fits.work.rows;
+      size = right.rows;
+    }
 
+    pub second_side : IsSide b is b.op.now.work.cols (work_of b).cols old.cols u
+    second_side = record {
+      known = (sylvester_knowns b.op.now is.valid t u negative form).1;
+      on = (sylvester-on b.op.now is.valid t u negative form).1;
+      whole = is.fits.work.cols;
+      size = right.cols;
+    }
+
+  module _ (t u : Factor) (negative : Bool) (form : b.op.now.form ≡ Sylvester t u negative) (o p : Oper) (first : IsFactor b t o) (second : IsFactor b u p) where
     first_size : op_rows o ≡ (work_of b).rows
-    first_size = triangle_op_rows b is b.op.now.work.rows t knowns_in.0 (sylvester-on b.op.now is.valid t u negative form).0 o first ∙ sym is.fits.work.rows
+    first_size = side_size (first_side t u negative form) o first
 
     second_size : op_rows p ≡ (work_of b).cols
-    second_size = triangle_op_rows b is b.op.now.work.cols u knowns_in.1 (sylvester-on b.op.now is.valid t u negative form).1 p second ∙ sym is.fits.work.cols
-
-    pub first_rows : op_rows o ≡ old.rows
-    first_rows = first_size ∙ sym right.rows
-
-    pub first_cols : op_cols o ≡ old.rows
-    first_cols =
-        triangle_op_cols b is b.op.now.work.rows t knowns_in.0 (sylvester-on b.op.now is.valid t u negative form).0 o first ∙ sym is.fits.work.rows ∙ sym right.rows
-
-    pub second_rows : op_rows p ≡ old.cols
-    second_rows = second_size ∙ sym right.cols
-
-    pub second_cols : op_cols p ≡ old.cols
-    second_cols =
-        triangle_op_cols b is b.op.now.work.cols u knowns_in.1 (sylvester-on b.op.now is.valid t u negative form).1 p second ∙ sym is.fits.work.cols ∙ sym right.cols
-
-    pub sylvester_structures : IsTriangular o.structure × IsTriangular p.structure
-    sylvester_structures = (
-      triangle_structure b is b.op.now.work.rows t knowns_in.0 (sylvester-on b.op.now is.valid t u negative form).0 o first,
-      triangle_structure b is b.op.now.work.cols u knowns_in.1 (sylvester-on b.op.now is.valid t u negative form).1 p second,
-    )
+    second_size = side_size (second_side t u negative form) p second
 
     pub sylvester_bad : (place : Place) → IsFirstOfPairs b.m negative o p place → IsBad b place
     sylvester_bad place bad =
@@ -214,7 +214,7 @@ module _ (b : BoundOperation) (is : IsBound b) (old : Grid) (right : HasRight b 
         → HasInversesOfPairs b.m old.rows old.cols negative (op_table again) (op_table also) block
     sylvester_inverses again also again_is also_is numbers block rows cols rows_are cols_are block_is has =
         HasInversesOfPairs-same b.m negative (op_rows o) old.rows rows (op_rows p) old.cols cols (op_table o) (op_table again) (op_table p) (op_table also) numbers block
-        first_rows rows_are second_rows cols_are (table_is b t o first ∙ sym (table_is b t again again_is)) (table_is b u p second ∙ sym (table_is b u also also_is)) block_is has
+        (side_rows (first_side t u negative form) o first) rows_are (side_rows (second_side t u negative form) p second) cols_are (table_is b t o first ∙ sym (table_is b t again again_is)) (table_is b u p second ∙ sym (table_is b u also also_is)) block_is has
 
   -- ---- L * U = R
 

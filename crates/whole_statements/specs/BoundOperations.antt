@@ -1,5 +1,5 @@
 -- An operation with the matrices that its operands are bound to, and what comes of it.
-use Rattle.std.specs.Prelude.{◌≡◌, List, All, slice_index_or}
+use Rattle.std.specs.Prelude.{◌≡◌, List, All, slice_index_or, MatchOption, Option}
 use Rattle.residue_sums.specs.Residues.{IsModulus}
 use Rattle.residue_sums.specs.Grids.{Grid, AreResidues}
 use Rattle.operation_spec.specs.declared.operation.Factor.{Factor}
@@ -47,3 +47,7 @@ IsBad b = IsFirstBadPivot b.m b.op.now (knowns_of b) (work_of b)
 pub record IsSolution (b : BoundOperation) (solution : Grid) : Type 0 where
   pub pivots : (place : Place) → ¬ (IsBad b place)
   pub satisfies : Satisfies b.m b.op.now (knowns_of b) (work_of b) solution
+
+-- what comes of the operation: its first bad pivot, or the solution
+abbrev pub IsOutcome : BoundOperation → Option Place → Grid → Type 0
+IsOutcome b bad after = MatchOption bad (IsSolution b after) (IsBad b)

@@ -1,9 +1,9 @@
 //! The forms that find factors.
 
-ghost use Rattle.std.specs.Prelude.{◌≡◌, MatchOption};
+ghost use Rattle.std.specs.Prelude.{◌≡◌};
 ghost use Rattle.operation_spec.specs.declared.operation.Form.TheVariants.{Lu, Ldl};
 ghost use Rattle.matrix_parts.specs.Lent.{grid_of, loan_of, IsPart, IsKept};
-ghost use Rattle.whole_statements.specs.BoundOperations.{HasRight, IsBad, IsBound, IsSolution};
+ghost use Rattle.whole_statements.specs.BoundOperations.{HasRight, IsBound, IsOutcome};
 
 use crate::bound::BoundOperation;
 use equation::Place;
@@ -20,7 +20,7 @@ impl BoundOperation<'_> {
         ensures loan { loan_of w.new ≡ loan_of w.old }
         ensures part { IsPart w.new }
         ensures kept { IsKept w.old w.new }
-        ensures outcome { MatchOption result (IsSolution self.now (grid_of w.new)) (IsBad self.now) }
+        ensures outcome { IsOutcome self.now result (grid_of w.new) }
     {
         match factor_lu(self.m, w) {
             Ok(()) => None,
@@ -40,7 +40,7 @@ impl BoundOperation<'_> {
         ensures loan { loan_of w.new ≡ loan_of w.old }
         ensures part { IsPart w.new }
         ensures kept { IsKept w.old w.new }
-        ensures outcome { MatchOption result (IsSolution self.now (grid_of w.new)) (IsBad self.now) }
+        ensures outcome { IsOutcome self.now result (grid_of w.new) }
     {
         match factor_ldl(self.m, w) {
             Ok(()) => None,

@@ -4,7 +4,7 @@ ghost use Rattle.std.specs.Prelude.{◌≡◌, ◌↔◌, ◌*◌, Err, length, 
 ghost use Rattle.residue_sums.specs.Grids.{AreResidues};
 ghost use Rattle.matrix_parts.specs.Opers.{op_cols, op_rows, op_table, IsOper};
 ghost use Rattle.equation.specs.Pivots.{IsFirstByRows, IsFirstOnDiagonal};
-ghost use Rattle.kernel_lib.specs.declared.bad_pivot.BadPivot.{BadPivot};
+ghost use Rattle.kernel_lib.specs.BadPivot.{BadPivot};
 ghost use Rattle.kernel_lib.specs.BadPlaces.{pair_pivots, place_of};
 ghost use Rattle.kernel_lib.specs.Conditions.{HasInverses, HasInversesOfPairs};
 
@@ -18,7 +18,8 @@ pub(crate) fn write_inverses(m: Modulus, t: Oper<'_>, row: &mut [u64]) -> Result
     requires square { op_cols t ≡ op_rows t }
     requires count { length row.old ≡ op_rows t }
     requires factor { AreResidues m t.part }
-    ensures inverses { OnOk result (HasInverses m (op_rows t.entry) (op_table t.entry) (record { rows = 1; cols = op_rows t.entry; entries = row.new })) }
+    ensures inverses { OnOk result (HasInverses m (op_rows t.entry) (op_table t.entry)
+        (record { rows = 1; cols = op_rows t.entry; entries = row.new })) }
     ensures bad_pivot { (place : BadPivot) → (result ≡ Err place)
         ↔ IsFirstOnDiagonal m (op_rows t.entry) (λ i. op_table t.entry i i) (place_of place) }
 {
@@ -39,10 +40,12 @@ pub(crate) fn write_pair_inverses(
     requires squares { (op_cols t ≡ op_rows t) × (op_cols u ≡ op_rows u) }
     requires count { length block.old ≡ op_rows t * op_rows u }
     requires factors { AreResidues m t.part × AreResidues m u.part }
-    ensures inverses { OnOk result (HasInversesOfPairs m (op_rows t.entry) (op_rows u.entry) minus (op_table t.entry) (op_table u.entry)
+    ensures inverses { OnOk result (HasInversesOfPairs m (op_rows t.entry) (op_rows u.entry) minus
+        (op_table t.entry) (op_table u.entry)
         (record { rows = op_rows t.entry; cols = op_rows u.entry; entries = block.new })) }
     ensures bad_pivot { (place : BadPivot) → (result ≡ Err place)
-        ↔ IsFirstByRows m (op_rows t.entry) (op_rows u.entry) (pair_pivots m minus (op_table t.entry) (op_table u.entry)) (place_of place) }
+        ↔ IsFirstByRows m (op_rows t.entry) (op_rows u.entry)
+        (pair_pivots m minus (op_table t.entry) (op_table u.entry)) (place_of place) }
 {
     let mut out = whole_of(block, t.rows(), u.rows());
     pivots_sylvester(m, t, u, minus, &mut out)

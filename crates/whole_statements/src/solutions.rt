@@ -1,8 +1,8 @@
 //! The solution of an operation, of any form.
 
-ghost use Rattle.std.specs.Prelude.{◌≡◌, IfOk, MatchOption, MatchResult};
+ghost use Rattle.std.specs.Prelude.{◌≡◌, IfOk, MatchResult};
 ghost use Rattle.matrix_parts.specs.Lent.{grid_of, loan_of, IsPart, IsKept};
-ghost use Rattle.whole_statements.specs.BoundOperations.{HasRight, IsBad, IsBound, IsSolution, work_of};
+ghost use Rattle.whole_statements.specs.BoundOperations.{HasRight, IsBad, IsBound, IsOutcome, IsSolution, work_of};
 
 use crate::bound::BoundOperation;
 use equation::Place;
@@ -20,7 +20,7 @@ impl BoundOperation<'_> {
         ensures loan { loan_of w.new ≡ loan_of w.old }
         ensures part { IsPart w.new }
         ensures kept { IsKept w.old w.new }
-        ensures outcome { IfOk result (λ bad. MatchOption bad (IsSolution self.now (grid_of w.new)) (IsBad self.now)) }
+        ensures outcome { IfOk result (λ bad. IsOutcome self.now bad (grid_of w.new)) }
     {
         match self.op.form {
             Form::Assign => Ok(None),
@@ -45,8 +45,8 @@ impl BoundOperation<'_> {
     fn solve_entries(&self, alloc: Global, entries: &mut [u64]) -> Result<Option<Place>, AllocError>
         requires bound { IsBound self.now }
         requires work { entries.old ≡ (work_of self.now).entries }
-        ensures { IfOk result (λ bad. MatchOption bad
-            (IsSolution self.now (record { rows = (work_of self.now).rows; cols = (work_of self.now).cols; entries = entries.new })) (IsBad self.now)) }
+        ensures { IfOk result (λ bad. IsOutcome self.now bad
+            (record { rows = (work_of self.now).rows; cols = (work_of self.now).cols; entries = entries.new })) }
     {
         let mut w = whole_of(entries, self.work().rows(), self.work().cols());
         self.add_terms(&mut w);

@@ -1,9 +1,9 @@
 //! The forms that solve with triangular factors.
 
-ghost use Rattle.std.specs.Prelude.{◌≡◌, ◌*◌, length, MatchOption};
+ghost use Rattle.std.specs.Prelude.{◌≡◌, ◌*◌, length};
 ghost use Rattle.operation_spec.specs.declared.operation.Form.TheVariants.{Left, Right, Sylvester};
 ghost use Rattle.matrix_parts.specs.Lent.{grid_of, loan_of, IsPart, IsKept};
-ghost use Rattle.whole_statements.specs.BoundOperations.{HasRight, IsBad, IsBound, IsSolution};
+ghost use Rattle.whole_statements.specs.BoundOperations.{HasRight, IsBound, IsOutcome};
 
 use crate::bound::BoundOperation;
 use crate::pivot_rows::{write_inverses, write_pair_inverses};
@@ -13,8 +13,8 @@ use matrix_parts::{PartMut, part_of_slice};
 use operation_spec::Factor;
 
 impl BoundOperation<'_> {
-    /// Solves `op(T) * X = R` for the right side that w holds, or answers the first bad pivot. There are as many inverses as w
-    /// has rows.
+    /// Solves `op(T) * X = R` for the right side that w holds, or answers the first bad pivot. There are
+    /// as many inverses as w has rows.
     pub fn solve_left(&self, t: Factor, w: &mut PartMut<'_>, inverses: &mut [u64]) -> Option<Place>
         requires bound { IsBound self.now }
         requires form { self.now.op.now.form ≡ Left t }
@@ -24,7 +24,7 @@ impl BoundOperation<'_> {
         ensures loan { loan_of w.new ≡ loan_of w.old }
         ensures part { IsPart w.new }
         ensures kept { IsKept w.old w.new }
-        ensures outcome { MatchOption result (IsSolution self.now (grid_of w.new)) (IsBad self.now) }
+        ensures outcome { IsOutcome self.now result (grid_of w.new) }
     {
         match write_inverses(self.m, self.factor(t), inverses) {
             Ok(()) => {
@@ -39,8 +39,8 @@ impl BoundOperation<'_> {
         }
     }
 
-    /// Solves `X * op(T) = R` for the right side that w holds, or answers the first bad pivot. There are as many inverses as w
-    /// has columns.
+    /// Solves `X * op(T) = R` for the right side that w holds, or answers the first bad pivot. There are
+    /// as many inverses as w has columns.
     pub fn solve_right(&self, t: Factor, w: &mut PartMut<'_>, inverses: &mut [u64]) -> Option<Place>
         requires bound { IsBound self.now }
         requires form { self.now.op.now.form ≡ Right t }
@@ -50,7 +50,7 @@ impl BoundOperation<'_> {
         ensures loan { loan_of w.new ≡ loan_of w.old }
         ensures part { IsPart w.new }
         ensures kept { IsKept w.old w.new }
-        ensures outcome { MatchOption result (IsSolution self.now (grid_of w.new)) (IsBad self.now) }
+        ensures outcome { IsOutcome self.now result (grid_of w.new) }
     {
         match write_inverses(self.m, self.factor(t), inverses) {
             Ok(()) => {
@@ -65,8 +65,8 @@ impl BoundOperation<'_> {
         }
     }
 
-    /// Solves `op(T) * X + X * op(U) = R`, or with `-` where `minus` is true, for the right side that w holds, or answers the
-    /// first bad pivot. There are as many inverses as w has entries.
+    /// Solves `op(T) * X + X * op(U) = R`, or with `-` where `minus` is true, for the right side that w
+    /// holds, or answers the first bad pivot. There are as many inverses as w has entries.
     pub fn solve_sylvester(
         &self,
         t: Factor,
@@ -83,7 +83,7 @@ impl BoundOperation<'_> {
         ensures loan { loan_of w.new ≡ loan_of w.old }
         ensures part { IsPart w.new }
         ensures kept { IsKept w.old w.new }
-        ensures outcome { MatchOption result (IsSolution self.now (grid_of w.new)) (IsBad self.now) }
+        ensures outcome { IsOutcome self.now result (grid_of w.new) }
     {
         let (first, second) = (self.factor(t), self.factor(u));
         match write_pair_inverses(self.m, first, second, minus, inverses) {

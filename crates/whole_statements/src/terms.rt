@@ -24,8 +24,10 @@ impl BoundOperation<'_> {
         ensures loan { loan_of w.new ≡ loan_of w.old }
         ensures part { IsPart w.new }
         ensures kept { IsKept w.old w.new }
-        ensures updated { IsUpdated self.now.m term.minus self.now.op.now.work.structure (factor_cols (knowns_of self.now) term.first)
-            (factor_table self.now.op.now (knowns_of self.now) term.first) (factor_table self.now.op.now (knowns_of self.now) term.second)
+        ensures updated { IsUpdated self.now.m term.minus self.now.op.now.work.structure
+            (factor_cols (knowns_of self.now) term.first)
+            (factor_table self.now.op.now (knowns_of self.now) term.first)
+            (factor_table self.now.op.now (knowns_of self.now) term.second)
             (grid_of w.old) (grid_of w.new) }
     {
         let (first, second) = (self.factor(term.first), self.factor(term.second));

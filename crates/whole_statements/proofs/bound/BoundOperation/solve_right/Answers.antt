@@ -2,7 +2,7 @@ use Rattle.std.proofs.Common.{◌∙◌, inr, sym}
 use Rattle.matrix_parts.specs.Lent.{grid_of}
 use Rattle.equation.proofs.FactorSizes.{right_known}
 use Rattle.kernel_lib.specs.BadPlaces.{place_of}
-use Rattle.whole_statements.proofs.FormOutcomes.{IsFirstOf, right_bad, right_cols, right_inverses, right_pivots, right_rows, right_satisfies, right_structure, none_is_bad, one_is_bad, right_square}
+use Rattle.whole_statements.proofs.FormOutcomes.{IsFirstOf, right_bad, right_pivots, right_satisfies, right_side, none_is_bad, one_is_bad, right_square, side_cols, side_inverses, side_rows, side_structure}
 use Rattle.whole_statements.proofs.bound.BoundOperation.solve_right.Goals as goal
 
 pub factor-requires-clause-known : goal.factor-requires-clause-known
@@ -10,35 +10,35 @@ factor-requires-clause-known c = right_known c.args.self.now.op.now c.requires.b
 
 pub write_inverses-requires-clause-square : goal.write_inverses-requires-clause-square
 write_inverses-requires-clause-square c =
-    right_cols c.args.self.now c.requires.bound (grid_of c.args.w.now) c.requires.right c.args.t c.requires.form c.factor.result c.factor.ensures
-    ∙ sym (right_rows c.args.self.now c.requires.bound (grid_of c.args.w.now) c.requires.right c.args.t c.requires.form c.factor.result c.factor.ensures)
+    side_cols (right_side c.args.self.now c.requires.bound (grid_of c.args.w.now) c.requires.right c.args.t c.requires.form) c.factor.result c.factor.ensures
+    ∙ sym (side_rows (right_side c.args.self.now c.requires.bound (grid_of c.args.w.now) c.requires.right c.args.t c.requires.form) c.factor.result c.factor.ensures)
 
 pub write_inverses-requires-clause-count : goal.write_inverses-requires-clause-count
 write_inverses-requires-clause-count c =
     c.requires.count
-    ∙ sym (right_rows c.args.self.now c.requires.bound (grid_of c.args.w.now) c.requires.right c.args.t c.requires.form c.factor.result c.factor.ensures)
+    ∙ sym (side_rows (right_side c.args.self.now c.requires.bound (grid_of c.args.w.now) c.requires.right c.args.t c.requires.form) c.factor.result c.factor.ensures)
 
 pub factor-requires-in-Ok-clause-known : goal.factor-requires-in-Ok-clause-known
 factor-requires-in-Ok-clause-known c = right_known c.args.self.now.op.now c.requires.bound.valid c.args.t c.requires.form
 
 pub solve_right-requires-clause-triangular : goal.solve_right-requires-clause-triangular
 solve_right-requires-clause-triangular c =
-    right_structure c.args.self.now c.requires.bound (grid_of c.args.w.now) c.requires.right c.args.t c.requires.form c.factor-in-Ok.result c.factor-in-Ok.ensures
+    side_structure (right_side c.args.self.now c.requires.bound (grid_of c.args.w.now) c.requires.right c.args.t c.requires.form) c.factor-in-Ok.result c.factor-in-Ok.ensures
 
 pub solve_right-requires-clause-square : goal.solve_right-requires-clause-square
 solve_right-requires-clause-square c = right_square c.args.self.now c.requires.bound (grid_of c.args.w.now) c.requires.right
 
 pub solve_right-requires-clause-rows : goal.solve_right-requires-clause-rows
 solve_right-requires-clause-rows c =
-    right_rows c.args.self.now c.requires.bound (grid_of c.args.w.now) c.requires.right c.args.t c.requires.form c.factor-in-Ok.result c.factor-in-Ok.ensures
+    side_rows (right_side c.args.self.now c.requires.bound (grid_of c.args.w.now) c.requires.right c.args.t c.requires.form) c.factor-in-Ok.result c.factor-in-Ok.ensures
 
 pub solve_right-requires-clause-cols : goal.solve_right-requires-clause-cols
 solve_right-requires-clause-cols c =
-    right_cols c.args.self.now c.requires.bound (grid_of c.args.w.now) c.requires.right c.args.t c.requires.form c.factor-in-Ok.result c.factor-in-Ok.ensures
+    side_cols (right_side c.args.self.now c.requires.bound (grid_of c.args.w.now) c.requires.right c.args.t c.requires.form) c.factor-in-Ok.result c.factor-in-Ok.ensures
 
 pub solve_right-requires-clause-inverses : goal.solve_right-requires-clause-inverses
 solve_right-requires-clause-inverses c = inr
-    (right_inverses c.args.self.now c.requires.bound (grid_of c.args.w.now) c.requires.right c.args.t c.requires.form c.factor.result c.factor.ensures
+    (side_inverses (right_side c.args.self.now c.requires.bound (grid_of c.args.w.now) c.requires.right c.args.t c.requires.form) c.factor.result c.factor.ensures
     c.factor-in-Ok.result c.factor-in-Ok.ensures c.write_inverses.new.row c.part_of_slice-row.result c.cols.result c.cols.ensures c.part_of_slice-row.ensures c.in-Ok.ensures.inverses)
 
 pub returns-in-Ok-clause-outcome : goal.returns-in-Ok-clause-outcome

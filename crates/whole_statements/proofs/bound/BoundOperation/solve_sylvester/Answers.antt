@@ -3,7 +3,7 @@ use Rattle.matrix_parts.specs.Lent.{grid_of}
 use Rattle.matrix_parts.specs.Opers.{op_rows}
 use Rattle.equation.proofs.FactorSizes.{sylvester_knowns}
 use Rattle.kernel_lib.specs.BadPlaces.{place_of}
-use Rattle.whole_statements.proofs.FormOutcomes.{IsFirstOfPairs, first_cols, first_rows, none_is_bad, one_is_bad, second_cols, second_rows, sylvester_bad, sylvester_inverses, sylvester_pivots, sylvester_satisfies, sylvester_structures}
+use Rattle.whole_statements.proofs.FormOutcomes.{IsFirstOfPairs, first_side, none_is_bad, one_is_bad, second_side, side_cols, side_rows, side_structure, sylvester_bad, sylvester_inverses, sylvester_pivots, sylvester_satisfies}
 use Rattle.whole_statements.proofs.bound.BoundOperation.solve_sylvester.Goals as goal
 
 pub factor-first-requires-clause-known : goal.factor-first-requires-clause-known
@@ -14,14 +14,14 @@ factor-second-requires-clause-known c = (sylvester_knowns c.args.self.now.op.now
 
 pub write_pair_inverses-requires-clause-squares : goal.write_pair_inverses-requires-clause-squares
 write_pair_inverses-requires-clause-squares c = (
-  first_cols c.args.self.now c.requires.bound (grid_of c.args.w.now) c.requires.right c.args.t c.args.u c.args.minus c.requires.form c.factor-first.result c.factor-second.result c.factor-first.ensures c.factor-second.ensures ∙ sym (first_rows c.args.self.now c.requires.bound (grid_of c.args.w.now) c.requires.right c.args.t c.args.u c.args.minus c.requires.form c.factor-first.result c.factor-second.result c.factor-first.ensures c.factor-second.ensures),
-  second_cols c.args.self.now c.requires.bound (grid_of c.args.w.now) c.requires.right c.args.t c.args.u c.args.minus c.requires.form c.factor-first.result c.factor-second.result c.factor-first.ensures c.factor-second.ensures ∙ sym (second_rows c.args.self.now c.requires.bound (grid_of c.args.w.now) c.requires.right c.args.t c.args.u c.args.minus c.requires.form c.factor-first.result c.factor-second.result c.factor-first.ensures c.factor-second.ensures),
+  side_cols (first_side c.args.self.now c.requires.bound (grid_of c.args.w.now) c.requires.right c.args.t c.args.u c.args.minus c.requires.form) c.factor-first.result c.factor-first.ensures ∙ sym (side_rows (first_side c.args.self.now c.requires.bound (grid_of c.args.w.now) c.requires.right c.args.t c.args.u c.args.minus c.requires.form) c.factor-first.result c.factor-first.ensures),
+  side_cols (second_side c.args.self.now c.requires.bound (grid_of c.args.w.now) c.requires.right c.args.t c.args.u c.args.minus c.requires.form) c.factor-second.result c.factor-second.ensures ∙ sym (side_rows (second_side c.args.self.now c.requires.bound (grid_of c.args.w.now) c.requires.right c.args.t c.args.u c.args.minus c.requires.form) c.factor-second.result c.factor-second.ensures),
 )
 
 pub write_pair_inverses-requires-clause-count : goal.write_pair_inverses-requires-clause-count
 write_pair_inverses-requires-clause-count c =
-    c.requires.count ∙ ap (λ (n : ℕ). n * c.args.w.now.cols) (sym (first_rows c.args.self.now c.requires.bound (grid_of c.args.w.now) c.requires.right c.args.t c.args.u c.args.minus c.requires.form c.factor-first.result c.factor-second.result c.factor-first.ensures c.factor-second.ensures))
-    ∙ ap (λ (n : ℕ). op_rows c.factor-first.result * n) (sym (second_rows c.args.self.now c.requires.bound (grid_of c.args.w.now) c.requires.right c.args.t c.args.u c.args.minus c.requires.form c.factor-first.result c.factor-second.result c.factor-first.ensures c.factor-second.ensures))
+    c.requires.count ∙ ap (λ (n : ℕ). n * c.args.w.now.cols) (sym (side_rows (first_side c.args.self.now c.requires.bound (grid_of c.args.w.now) c.requires.right c.args.t c.args.u c.args.minus c.requires.form) c.factor-first.result c.factor-first.ensures))
+    ∙ ap (λ (n : ℕ). op_rows c.factor-first.result * n) (sym (side_rows (second_side c.args.self.now c.requires.bound (grid_of c.args.w.now) c.requires.right c.args.t c.args.u c.args.minus c.requires.form) c.factor-second.result c.factor-second.ensures))
 
 pub factor-left-requires-clause-known : goal.factor-left-requires-clause-known
 factor-left-requires-clause-known c =
@@ -33,23 +33,23 @@ factor-right-requires-clause-known c =
 
 pub solve_sylvester-requires-clause-triangular : goal.solve_sylvester-requires-clause-triangular
 solve_sylvester-requires-clause-triangular c =
-    sylvester_structures c.args.self.now c.requires.bound (grid_of c.args.w.now) c.requires.right c.args.t c.args.u c.args.minus c.requires.form c.factor-left.result c.factor-right.result c.factor-left.ensures c.factor-right.ensures
+    (side_structure (first_side c.args.self.now c.requires.bound (grid_of c.args.w.now) c.requires.right c.args.t c.args.u c.args.minus c.requires.form) c.factor-left.result c.factor-left.ensures, side_structure (second_side c.args.self.now c.requires.bound (grid_of c.args.w.now) c.requires.right c.args.t c.args.u c.args.minus c.requires.form) c.factor-right.result c.factor-right.ensures)
 
 pub solve_sylvester-requires-clause-rows : goal.solve_sylvester-requires-clause-rows
 solve_sylvester-requires-clause-rows c =
-    first_rows c.args.self.now c.requires.bound (grid_of c.args.w.now) c.requires.right c.args.t c.args.u c.args.minus c.requires.form c.factor-left.result c.factor-right.result c.factor-left.ensures c.factor-right.ensures
+    side_rows (first_side c.args.self.now c.requires.bound (grid_of c.args.w.now) c.requires.right c.args.t c.args.u c.args.minus c.requires.form) c.factor-left.result c.factor-left.ensures
 
 pub solve_sylvester-requires-clause-left : goal.solve_sylvester-requires-clause-left
 solve_sylvester-requires-clause-left c =
-    first_cols c.args.self.now c.requires.bound (grid_of c.args.w.now) c.requires.right c.args.t c.args.u c.args.minus c.requires.form c.factor-left.result c.factor-right.result c.factor-left.ensures c.factor-right.ensures
+    side_cols (first_side c.args.self.now c.requires.bound (grid_of c.args.w.now) c.requires.right c.args.t c.args.u c.args.minus c.requires.form) c.factor-left.result c.factor-left.ensures
 
 pub solve_sylvester-requires-clause-cols : goal.solve_sylvester-requires-clause-cols
 solve_sylvester-requires-clause-cols c =
-    second_cols c.args.self.now c.requires.bound (grid_of c.args.w.now) c.requires.right c.args.t c.args.u c.args.minus c.requires.form c.factor-left.result c.factor-right.result c.factor-left.ensures c.factor-right.ensures
+    side_cols (second_side c.args.self.now c.requires.bound (grid_of c.args.w.now) c.requires.right c.args.t c.args.u c.args.minus c.requires.form) c.factor-right.result c.factor-right.ensures
 
 pub solve_sylvester-requires-clause-right : goal.solve_sylvester-requires-clause-right
 solve_sylvester-requires-clause-right c =
-    second_rows c.args.self.now c.requires.bound (grid_of c.args.w.now) c.requires.right c.args.t c.args.u c.args.minus c.requires.form c.factor-left.result c.factor-right.result c.factor-left.ensures c.factor-right.ensures
+    side_rows (second_side c.args.self.now c.requires.bound (grid_of c.args.w.now) c.requires.right c.args.t c.args.u c.args.minus c.requires.form) c.factor-right.result c.factor-right.ensures
 
 pub solve_sylvester-requires-clause-inverses : goal.solve_sylvester-requires-clause-inverses
 solve_sylvester-requires-clause-inverses c =

@@ -1,9 +1,0 @@
-use Rattle.std.proofs.Common.{◌≡◌, ◌≢◌, ℕ, ◌<◌, slice_index}
-use Rattle.kernel_lib.specs.PanelRows.{in_panel}
-use Rattle.kernel_lib.proofs.panel_rows.put_column.Given as goal
-
-abbrev pub invariant-loop-j : goal.invariant-loop-j
-invariant-loop-j l = record {
-  here : (j : ℕ) → j < l.j → in_panel l.panel l.height 0 j l.k ≡ slice_index l.values j;
-  others : (j p : ℕ) → p < l.height → p ≢ l.k → in_panel l.panel l.height 0 j p ≡ in_panel l.fn.panel l.height 0 j p;
-}

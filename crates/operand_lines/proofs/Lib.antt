@@ -1,0 +1,3 @@
+pub mod PanelPlaces
+pub mod PartResidues
+pub mod PartValues

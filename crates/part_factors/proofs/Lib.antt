@@ -1,0 +1,11 @@
+pub mod FactorOutcomes
+pub mod Factored
+pub mod FirstBads
+pub mod FoundColumns
+pub mod FoundEntries
+pub mod FoundFactors
+pub mod Leading
+pub mod PanelPlaceWrites
+pub mod PanelRows
+pub mod PieceRows
+pub mod PivotScales

@@ -1,0 +1,3 @@
+pub mod BadPlaces
+pub mod ColumnFactors
+pub mod PanelRows

@@ -1,0 +1,6 @@
+pub mod Diagonals
+pub mod LdlValues
+pub mod LineSteps
+pub mod LinesDone
+pub mod SolvedValues
+pub mod SylvesterSteps

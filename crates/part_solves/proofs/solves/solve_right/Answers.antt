@@ -1,0 +1,15 @@
+use Rattle.std.proofs.Common.{◌∙◌}
+use Rattle.residue_sums.proofs.Grids.{entry_below}
+use Rattle.matrix_parts.specs.Opers.{op_rows, op_table}
+use Rattle.matrix_parts.specs.Lent.{grid_of}
+use Rattle.matrix_parts.proofs.Rects.{IsFull-rect}
+use Rattle.part_solves.proofs.SolvedValues.{right_value}
+use Rattle.part_solves.proofs.solves.solve_right.Goals as goal
+
+pub returns-clause-solved : goal.returns-clause-solved
+returns-clause-solved c =
+    let w = c.args.w.now in
+    rw c.new.ensures at (right_value c.new.result c.args.inside (op_rows c.turned.result) (grid_of w) c.solve.new.w c.solve.ensures.kept.rows c.solve.ensures.kept.cols
+    (λ i j row col. rw c.new.ensures (entry_below c.args.m (grid_of w) i j (IsFull-rect w.entries.now w.first w.stride w.rows w.cols) c.requires.residues row col))
+    c.solve.ensures.solved.residues (op_table c.args.t) (op_table c.turned.result) c.turned.ensures.table (c.turned.ensures.rows ∙ c.requires.cols)
+    c.solve.ensures.solved.solved c.solve.ensures.solved.others)

@@ -1,0 +1,4 @@
+pub mod ChangedAreas
+pub mod PanelSums
+pub mod PartProducts
+pub mod ScaledPanels
