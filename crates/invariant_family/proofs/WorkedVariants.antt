@@ -1,14 +1,18 @@
 -- Variants of small operations, computed from the definitions and held against lines worked by hand.
-use Rattle.std.proofs.Common.{◌≡◌, ℕ, List, [], ◌∷◌, map, refl, Some, None, slice_index_or}
+use Rattle.std.proofs.Common.{◌≡◌, ℕ, List, [], ◌∷◌, codes, map, refl, Some, None, slice_index_or}
+use Rattle.structure_rules.specs.declared.Structure.TheVariants.{General}
+use Rattle.operation_spec.specs.declared.operation.Form.TheVariants.{Assign}
 use Rattle.operation_spec.specs.declared.operation.Operation.{Operation}
 use Rattle.operation_spec.specs.declared.task.Kind.TheVariants as kinds
 use Rattle.operation_spec.specs.declared.task.Task.{Task}
+use Rattle.operation_spec.specs.declared.split.Split.{Split}
 use Rattle.operation_spec.specs.declared.split.Dir.{Dir}
 use Rattle.operation_spec.specs.declared.split.Dir.TheVariants.{Forward, Backward}
-use Rattle.operation_spec.proofs.WorkedOperations.{low, low_primed, prod}
+use Rattle.operation_spec.proofs.WorkedOperations.{operand, added, low, low_primed, prod}
 use Rattle.task_graph.specs.Order.{task_of}
 use Rattle.invariant_family.specs.declared.variant.Variant.{Variant}
 use Rattle.invariant_family.specs.Families.{family_of}
+use Rattle.invariant_family.specs.Splits.{pair_splits}
 
 solve : ℕ → ℕ → Task
 solve i j = task_of kinds.Solve 0 i j 0
@@ -64,3 +68,22 @@ prod_sets : map (λ (v : Variant). v.kept) (family_of prod)
     ∷ []
 unfolding prod term
 prod_sets = refl
+
+-- X = W + A * B + C * D, with as many dimensions as an equation can use
+four : Operation
+four = record {
+  name = codes "four";
+  dims = codes "m" ∷ codes "n" ∷ codes "k" ∷ codes "l" ∷ [];
+  work = operand (codes "W") General 0 1;
+  knowns = operand (codes "A") General 0 2 ∷ operand (codes "B") General 2 1 ∷ operand (codes "C") General 0 3 ∷ operand (codes "D") General 3 1 ∷ [];
+  form = Assign;
+  terms = added 0 1 ∷ added 2 3 ∷ [];
+}
+
+both : ℕ → ℕ → Split
+both first second = record { first = first; second = Some second }
+
+-- pairs come by the first dimension and then the second
+four_pairs : pair_splits four ≡ both 0 1 ∷ both 0 2 ∷ both 0 3 ∷ both 1 2 ∷ both 1 3 ∷ both 2 3 ∷ []
+unfolding four both
+four_pairs = refl

@@ -1,11 +1,13 @@
 -- The tasks of small operations and their needs, computed from the definitions and held against lists worked by hand.
 use Rattle.std.proofs.Common.{◌≡◌, ℕ, List, [], ◌∷◌, false, true, codes, filter, map, refl}
-use Rattle.structure_rules.specs.declared.Structure.TheVariants.{General, Upper}
+use Rattle.structure_rules.specs.declared.Structure.TheVariants.{Diagonal, General, Upper}
 use Rattle.operation_spec.specs.declared.operation.Operation.{Operation}
-use Rattle.operation_spec.specs.declared.operation.Form.TheVariants.{Assign, Left, Right}
+use Rattle.operation_spec.specs.declared.operation.Form.TheVariants.{Assign, Left, Right, Sylvester}
 use Rattle.operation_spec.specs.declared.task.Kind.TheVariants as kinds
 use Rattle.operation_spec.specs.declared.task.Task.{Task}
-use Rattle.operation_spec.proofs.WorkedOperations.{operand, factor, lu, ldl, sym, low_right, syl_lower}
+use Rattle.operation_spec.proofs.WorkedOperations.{operand, factor, added, lu, ldl, sym, low_right, syl_lower}
+use Rattle.task_graph.specs.declared.cut.Sides.TheVariants.{One, Two}
+use Rattle.task_graph.specs.Classes.{class_of}
 use Rattle.task_graph.specs.Order.{task_of, tasks_of}
 use Rattle.task_graph.specs.Needs.{does_need}
 
@@ -17,6 +19,9 @@ left i j k = task_of kinds.Left 0 i j k
 
 right : ℕ → ℕ → ℕ → Task
 right i j k = task_of kinds.Right 0 i j k
+
+product : ℕ → ℕ → Task
+product t k = task_of kinds.Term t 0 0 k
 
 needs_of : Operation → List ℕ → Task → List Task
 needs_of op counts task = filter (does_need op task) (tasks_of op counts)
@@ -111,3 +116,41 @@ upp = record {
 upp_tasks : tasks_of upp (2 ∷ 2 ∷ []) ≡ solve 1 0 ∷ solve 1 1 ∷ left 0 0 1 ∷ solve 0 0 ∷ left 0 1 1 ∷ solve 0 1 ∷ []
 unfolding upp solve left
 upp_tasks = refl
+
+-- T * X + X * U = W with diagonal T and U
+syl_diagonal : Operation
+syl_diagonal = record {
+  name = codes "syl";
+  dims = codes "m" ∷ codes "n" ∷ [];
+  work = operand (codes "W") General 0 1;
+  knowns = operand (codes "T") Diagonal 0 0 ∷ operand (codes "U") Diagonal 1 1 ∷ [];
+  form = Sylvester (factor 0 false) (factor 1 false) false;
+  terms = [];
+}
+
+-- no block is updated, and both rows and columns come from the first
+syl_diagonal_tasks : tasks_of syl_diagonal (2 ∷ 2 ∷ []) ≡ solve 0 0 ∷ solve 0 1 ∷ solve 1 0 ∷ solve 1 1 ∷ []
+unfolding syl_diagonal solve
+syl_diagonal_tasks = refl
+
+-- X = W + A * B - C' * D, where each product has an inner dimension of its own
+two_terms : Operation
+two_terms = record {
+  name = codes "two";
+  dims = codes "m" ∷ codes "n" ∷ codes "k" ∷ codes "l" ∷ [];
+  work = operand (codes "W") General 0 1;
+  knowns = operand (codes "A") General 0 2 ∷ operand (codes "B") General 2 1 ∷ operand (codes "C") General 3 0 ∷ operand (codes "D") General 3 1 ∷ [];
+  form = Assign;
+  terms = added 0 1 ∷ record { minus = true; first = factor 2 true; second = factor 3 false } ∷ [];
+}
+
+-- the products of the first term come first, each term's along its own dimension
+two_terms_tasks : tasks_of two_terms (1 ∷ 1 ∷ 2 ∷ 3 ∷ []) ≡ product 1 0 ∷ product 1 1 ∷ product 2 0 ∷ product 2 1 ∷ product 2 2 ∷ []
+unfolding two_terms product
+two_terms_tasks = refl
+
+-- a class keeps its term, and its inner part is one of that term's dimension
+two_terms_classes : map (class_of two_terms (One ∷ One ∷ One ∷ Two 1 ∷ [])) (tasks_of two_terms (1 ∷ 1 ∷ 1 ∷ 3 ∷ []))
+    ≡ product 1 0 ∷ product 2 0 ∷ product 2 1 ∷ product 2 1 ∷ []
+unfolding two_terms product
+two_terms_classes = refl
