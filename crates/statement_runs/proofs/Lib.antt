@@ -1,0 +1,13 @@
+pub mod StatementRuns
+pub mod StepValues
+pub mod FormRuns
+pub mod GatheredGrids
+pub mod AssignRuns
+pub mod LeftRuns
+pub mod RightRuns
+pub mod SylvesterRuns
+pub mod LuRuns
+pub mod LuPivots
+pub mod LdlRuns
+pub mod LdlPivots
+pub mod AllForms

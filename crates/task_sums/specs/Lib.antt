@@ -1,0 +1,2 @@
+pub mod SharedSums
+pub mod TaskRuns
