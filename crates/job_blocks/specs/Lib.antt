@@ -1,0 +1,3 @@
+pub mod BlockedJobs
+pub mod FactorBlocks
+pub mod Tables
