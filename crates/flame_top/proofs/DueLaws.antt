@@ -13,7 +13,10 @@ use Rattle.flame_top.specs.declared.command.Command.{Command}
 use Rattle.flame_top.specs.declared.command.Command.TheVariants.{Derive, Run, Verify}
 use Rattle.flame_top.specs.Refusals.{bad_pivot_text, refusal_text}
 use Rattle.flame_top.specs.Words.{words_of}
-use Rattle.flame_top.specs.Due.{Says, DueRun, DueFamilies, DueInput, DueShort, DueCommand, Due, families_text}
+use Rattle.flame_top.specs.Derive.{DueFamilies, families_text}
+use Rattle.flame_top.specs.Due.{DueInput, DueCommand, Due}
+use Rattle.flame_top.specs.DueTexts.{Says, DueShort}
+use Rattle.flame_top.specs.Run.{DueRun}
 use Rattle.flame_top.proofs.VerifyLaws.{same_verify}
 
 -- one status and one text

@@ -5,7 +5,10 @@ use Rattle.equation.specs.declared.job.Job.{Job}
 use Rattle.flame_top.specs.declared.command.Command.{Command}
 use Rattle.flame_top.specs.declared.command.Command.TheVariants.{Derive, Run, Verify}
 use Rattle.flame_top.specs.Words.{AreBad}
-use Rattle.flame_top.specs.Due.{Due, DueCommand, DueFamilies, DueInput, DueRun, DueShort}
+use Rattle.flame_top.specs.Derive.{DueFamilies}
+use Rattle.flame_top.specs.Due.{Due, DueCommand, DueInput}
+use Rattle.flame_top.specs.DueTexts.{DueShort}
+use Rattle.flame_top.specs.Run.{DueRun}
 use Rattle.flame_top.specs.Verify.{DueVerify}
 use Rattle.flame_top.specs.Answers.{IsDueStatus}
 

@@ -1,10 +1,11 @@
-mod Answering
 mod CommandWords
+mod Delivered
 mod DueLaws
 mod DueStatuses
 mod FiveItems
 mod JoinedTexts
 mod NamedCommands
+mod QuietStreams
 mod SomethingDue
 mod VerifiedStatements
 mod VerifyLaws

@@ -21,7 +21,10 @@ use Rattle.flame_top.specs.declared.command.Command.{Command}
 use Rattle.flame_top.specs.declared.command.Command.TheVariants.{Derive, Run, Verify}
 use Rattle.flame_top.specs.Refusals.{bad_pivot_text, refusal_text}
 use Rattle.flame_top.specs.Words.{AreBad, AreWordsOf}
-use Rattle.flame_top.specs.Due.{DueRun, DueFamilies, DueInput, DueShort, DueCommand, Due, families_text, input_limit}
+use Rattle.flame_top.specs.Derive.{DueFamilies, families_text}
+use Rattle.flame_top.specs.Due.{DueInput, DueCommand, Due, input_limit}
+use Rattle.flame_top.specs.DueTexts.{DueShort}
+use Rattle.flame_top.specs.Run.{DueRun}
 use Rattle.flame_top.proofs.NamedCommands.{bad_or_named}
 use Rattle.flame_top.proofs.VerifyLaws.{of_the_text, some_verify}
 

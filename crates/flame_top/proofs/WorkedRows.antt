@@ -10,7 +10,7 @@ use Rattle.invariant_family.specs.Families.{family_of}
 use Rattle.variant_report.specs.FamilyTexts.{variant_lines}
 use Rattle.job_text.specs.declared.fault.JobFault.TheVariants as faults
 use Rattle.flame_top.specs.declared.command.Command.TheVariants.{Run}
-use Rattle.flame_top.specs.Due.{families_text}
+use Rattle.flame_top.specs.Derive.{families_text}
 use Rattle.flame_top.specs.Refusals.{bad_pivot_text, refusal_text}
 use Rattle.flame_top.specs.Words.{words_of}
 

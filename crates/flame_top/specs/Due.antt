@@ -1,59 +1,19 @@
--- The status and the text that are due for words and an input, one relation for each command.
-use Rattle.std.specs.Prelude.{◌≡◌, ℕ, ◌≤◌, ◌<◌, ◌⊎◌, List, length, codes, Err, Some}
-use Rattle.std.specs.List.{flat_map}
-use Rattle.residue_sums.specs.Grids.{Grid}
-use Rattle.text_scan.specs.declared.Rest.{Rest}
-use Rattle.operation_spec.specs.declared.operation.Operation.{Operation}
-use Rattle.equation.specs.declared.job.Job.{Job}
-use Rattle.equation.specs.declared.job.Place.{Place}
-use Rattle.equation.specs.Meanings.{Means, MeansBadPivot}
-use Rattle.job_text.specs.declared.fault.JobFault.{JobFault}
-use Rattle.job_text.specs.declared.stop.Stop.TheVariants.{Nothing}
-use Rattle.job_text.specs.Sections.{text_fault}
-use Rattle.job_text.specs.SpelledJobs.{Spells, job_in}
-use Rattle.invariant_family.specs.Families.{family_of}
-use Rattle.variant_report.specs.FamilyTexts.{family_text}
-use Rattle.variant_report.specs.ResultTexts.{result_text}
+-- The status and the text that are due for words and an input, by the first case that applies:
+--
+--   1. the words name no command: 2, `bad words`;
+--   2. the input has more than 67,108,864 bytes: 3, `refused TooLong`;
+--   3. the input is no text of a job, or of what the command reads behind it: 3, the first fault with its line;
+--   4. `derive`: 0, the family of each operation (Derive);
+--   5. `verify`: 0 or 8, whether the matrices behind the job satisfy its equations (Verify);
+--   6. `run`: 0, the matrices that the job means, or 4, its first bad pivot (Run).
+use Rattle.std.specs.Prelude.{◌≡◌, ℕ, ◌≤◌, ◌<◌, ◌⊎◌, List, length, codes}
 use Rattle.flame_top.specs.declared.command.Command.{Command}
 use Rattle.flame_top.specs.declared.command.Command.TheVariants.{Derive, Run, Verify}
-use Rattle.flame_top.specs.Refusals.{bad_pivot_text, refusal_text}
+use Rattle.flame_top.specs.Derive.{DueFamilies}
+use Rattle.flame_top.specs.DueTexts.{Says, DueShort}
+use Rattle.flame_top.specs.Run.{DueRun}
 use Rattle.flame_top.specs.Verify.{DueVerify}
 use Rattle.flame_top.specs.Words.{AreWordsOf, AreBad}
-
--- the status and the text are these
-abbrev pub Says : ℕ → List ℕ → ℕ → List ℕ → Type 0
-Says due_status due_text status text = (status ≡ due_status) × (text ≡ due_text)
-
--- ---- for a job
-
--- a run of a job prints the matrices that the job means
-abbrev pub DueResult : Job → ℕ → List ℕ → Type 0
-DueResult job status text = (after : List Grid) × Means job after × Says 0 (result_text job after) status text
-
--- or it names the first bad pivot that the job means
-abbrev pub DueBadPivot : Job → ℕ → List ℕ → Type 0
-DueBadPivot job status text = (number : ℕ) × (place : Place) × MeansBadPivot job number place × Says 4 (bad_pivot_text number place) status text
-
-abbrev pub DueRun : Job → ℕ → List ℕ → Type 0
-DueRun job status text = DueResult job status text ⊎ DueBadPivot job status text
-
--- each operation's family
-abbrev pub families_text : List Operation → List ℕ
-families_text = flat_map (λ op. family_text op (family_of op))
-
--- the families of all operations of a job are printed
-abbrev pub DueFamilies : Job → ℕ → List ℕ → Type 0
-DueFamilies job status text = Says 0 (families_text job.operations) status text
-
--- ---- for an input
-
--- the first fault of an input that is no text of a job; want of memory is no fault of a text
-abbrev pub DueFault : List ℕ → ℕ → List ℕ → Type 0
-DueFault input status text = (fault : JobFault) × (text_fault fault ≡ Some fault) × (job_in Nothing input ≡ Err fault) × Says 3 (refusal_text fault) status text
-
--- for an input that is read as a job alone: what is due for the job that it spells, or the input's fault
-abbrev pub DueShort : (Job → ℕ → List ℕ → Type 0) → List ℕ → ℕ → List ℕ → Type 0
-DueShort due input status text = ((job : Job) × (rest : Rest) × Spells input Nothing job rest × due job status text) ⊎ DueFault input status text
 
 -- for a command with an input that is not too long
 abbrev pub DueInput : Command → List ℕ → ℕ → List ℕ → Type 0

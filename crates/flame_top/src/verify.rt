@@ -1,19 +1,19 @@
 //! `verify`: whether the matrices behind a job are the statements' work matrices after them.
 
-ghost use Rattle.std.specs.Prelude.{◌≡◌, ◌⊎◌, ◌+◌, ◌<◌, ◌≤◌, ◌++◌, ℕ, List, Ok, length, slice_set, codes, decimal, IfOk, MatchOption, OnOk};
+ghost use Rattle.std.specs.Prelude.{◌≡◌, ◌≢◌, ◌⊎◌, ◌+◌, ◌<◌, ◌≤◌, ◌++◌, ℕ, List, Ok, length, slice_set, codes, decimal, IfOk, MatchOption, OnOk};
 ghost use Rattle.std.specs.Io.KnownBytes.{IsAtEnd};
 ghost use Rattle.text_scan.specs.declared.token.Token.{Token};
 ghost use Rattle.text_scan.specs.Tokens.{tokens_of};
 ghost use Rattle.equation.specs.Jobs.{IsJob};
 ghost use Rattle.job_text.specs.AfterBlocks.{AreAfter, IsPlace};
-ghost use Rattle.flame_top.specs.Answers.{Answers, state_of};
+ghost use Rattle.flame_top.specs.Answers.{Answers, IsDueStatus, state_of};
 ghost use Rattle.flame_top.specs.Due.{DueCommand};
 ghost use Rattle.flame_top.specs.Verify.{Differs, DueAnswer, DueBehind, DueVerify, Verifies};
 ghost use Rattle.flame_top.specs.Words.{AsksVerify};
 
+use crate::answering::answer_command;
 use crate::command::Command;
-use crate::report::{Output, fault_output};
-use crate::run::answer_command;
+use crate::output::{Output, fault_output};
 use byte_texts::put_decimal;
 use equation::{Job, Place, residual};
 use job_text::{JobFault, Stop, read_after, read_job};
@@ -164,7 +164,7 @@ pub fn verify_cmd<S: Source, K: Sink>(
     ensures answers { Answers (DueCommand command.now)
         (state_of S.left S.faults source.old) (state_of S.left S.faults source.new)
         (state_of K.held K.faults sink.old) (state_of K.held K.faults sink.new) result }
-    ensures ended { result ≡ 0 → IsAtEnd (S.left source.new) }
+    ensures ended { IsDueStatus result → result ≢ 3 → IsAtEnd (S.left source.new) }
     ensures untouched { (result ≡ 1) ⊎ (result ≡ 5) → sink.new ≡ sink.old }
 {
     answer_command(alloc, *command, source, sink)

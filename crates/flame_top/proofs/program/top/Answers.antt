@@ -1,7 +1,7 @@
 use Rattle.std.proofs.Common.{inr, refl, arith}
 use Rattle.flame_top.proofs.DueStatuses.{bad_is_due}
-use Rattle.flame_top.proofs.Answering.{nothing_taken, some_input, answers_from_Delivers, Answers-wider}
-use Rattle.flame_top.proofs.answer.top.Goals as goal
+use Rattle.flame_top.proofs.Delivered.{nothing_taken, some_input, answers_from_Delivers, Answers-wider}
+use Rattle.flame_top.proofs.program.top.Goals as goal
 
 pub returns-in-Ok-None-clause-answers : goal.returns-in-Ok-None-clause-answers
 returns-in-Ok-None-clause-answers g c =

@@ -1,11 +1,15 @@
+//! All that the program does.
+
 ghost use Rattle.std.specs.Prelude.{◌≡◌, ◌≢◌, ◌⊎◌, map, string_bytes};
 ghost use Rattle.std.specs.Io.KnownBytes.{IsAtEnd};
 ghost use Rattle.flame_top.specs.Words.{AreBad};
 ghost use Rattle.flame_top.specs.Due.{Due};
-ghost use Rattle.flame_top.specs.Answers.{Answers, state_of};
+ghost use Rattle.flame_top.specs.Answers.{Answers, IsDueStatus, state_of};
 
+use crate::answering::deliver;
 use crate::command::{Command, read_words};
-use crate::run::{deliver, derive_cmd, run_one_cmd};
+use crate::derive::derive_cmd;
+use crate::run::run_one_cmd;
 use crate::verify::verify_cmd;
 use outside_io::{Gate, Sink, Source};
 use std::alloc::{AllocError, Global};
@@ -25,7 +29,7 @@ pub fn top<R: Sync, S: Source, K: Sink, G: Gate>(
     ensures answers { Answers (Due (map string_bytes words.now.items))
         (state_of S.left S.faults source.old) (state_of S.left S.faults source.new)
         (state_of K.held K.faults sink.old) (state_of K.held K.faults sink.new) result }
-    ensures ended { result ≡ 0 → IsAtEnd (S.left source.new) }
+    ensures ended { IsDueStatus result → result ≢ 2 → result ≢ 3 → IsAtEnd (S.left source.new) }
     ensures unread { AreBad (map string_bytes words.now.items) → (source.new ≡ source.old) × (result ≢ 1) }
     ensures untouched { (result ≡ 1) ⊎ (result ≡ 5) → sink.new ≡ sink.old }
 {

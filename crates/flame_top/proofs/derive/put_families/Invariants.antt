@@ -1,6 +1,6 @@
 use Rattle.std.proofs.Common.{◌≡◌, ◌++◌, drop}
-use Rattle.flame_top.specs.Due.{families_text}
-use Rattle.flame_top.proofs.report.put_families.Given as goal
+use Rattle.flame_top.specs.Derive.{families_text}
+use Rattle.flame_top.proofs.derive.put_families.Given as goal
 
 -- what is appended, and the families of the operations that are left
 abbrev pub invariant-loop-op : goal.invariant-loop-op

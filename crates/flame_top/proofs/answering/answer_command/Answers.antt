@@ -1,7 +1,7 @@
-use Rattle.flame_top.proofs.Answering.{answers_from_Delivers}
+use Rattle.flame_top.proofs.Delivered.{answers_from_Delivers}
 use Rattle.flame_top.proofs.DueStatuses.{command_is_due}
 use Rattle.flame_top.specs.Due.{DueCommand}
-use Rattle.flame_top.proofs.run.answer_command.Goals as goal
+use Rattle.flame_top.proofs.answering.answer_command.Goals as goal
 
 pub deliver-requires : goal.deliver-requires
 deliver-requires g c = let due = c.in-Ok.ensures.due in command_is_due c.args.command due.0 c.in-Ok.output.status c.in-Ok.output.text.items due.2

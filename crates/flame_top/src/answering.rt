@@ -1,0 +1,108 @@
+//! What every command does: its input is read whole, its output is composed, and then it is written.
+
+ghost use Rattle.std.specs.Prelude.{◌≡◌, ◌≢◌, ◌≤◌, ◌⊎◌, List, ℕ, length, IfOk, IsErrOf, codes};
+ghost use Rattle.std.specs.Io.KnownBytes.{Consumes, IsAtEnd};
+ghost use Rattle.outside_io.specs.Causes.{Rose};
+ghost use Rattle.flame_top.specs.Due.{DueCommand, DueInput};
+ghost use Rattle.flame_top.specs.Answers.{Answers, IsDueStatus, Delivers, DueFrom, state_of};
+ghost use Rattle.flame_top.specs.declared.answering.Halt.TheVariants.{Memory};
+
+use crate::command::Command;
+use crate::derive::derive_output;
+use crate::output::Output;
+use crate::run::run_output;
+use crate::verify::verify_output;
+use outside_io::{Failed, ReadEnd, Sink, Source, read_all, write_all};
+use std::alloc::{AllocError, Global};
+
+/// An input may have so many bytes.
+const LIMIT: u32 = 67_108_864;
+
+/// Why no output was composed.
+#[derive(Clone, Copy, Debug, PartialEq, Eq)]
+pub enum Halt {
+    /// Memory ran out.
+    Memory,
+    /// The source failed.
+    ReadFault,
+}
+
+impl From<AllocError> for Halt {
+    ghost from_gives = { λ _ e. e ≡ Memory };
+
+    fn from(_e: AllocError) -> Halt {
+        Halt::Memory
+    }
+}
+
+/// The refusal of an input that is too long.
+fn too_long(alloc: Global) -> Result<Output, AllocError>
+    ensures { IfOk result (λ output. (output.status ≡ 3) × (output.text.items ≡ codes "refused TooLong\n")) }
+{
+    Ok(Output {
+        status: 3,
+        text: Vec::from_slice(alloc, b"refused TooLong\n")?,
+    })
+}
+
+fn short_output(alloc: Global, command: Command, bytes: &[u8]) -> Result<Output, AllocError>
+    requires { length bytes.now ≤ 67108864 }
+    ensures { IfOk result (λ output. DueInput command bytes.now output.status output.text.items) }
+{
+    match command {
+        Command::Derive => Ok(derive_output(alloc, bytes)?),
+        Command::Verify => Ok(verify_output(alloc, bytes)?),
+        Command::Run { words: _ } => Ok(run_output(alloc, bytes)?),
+    }
+}
+
+/// Reads the source to its end, and composes the output of a command.
+pub fn command_output<S: Source>(
+    alloc: Global,
+    command: Command,
+    source: &mut S,
+) -> Result<Output, Halt>
+    ensures due { IfOk result (λ output. DueFrom (DueCommand command) (S.left source.old) output.status output.text.items) }
+    ensures read_fault { IsErrOf result Halt.ReadFault → Rose (S.faults source.old) (S.faults source.new) }
+    ensures quiet { result ≢ Err Halt.ReadFault → S.faults source.new ≡ S.faults source.old }
+    ensures taken { (front : List ℕ) × Consumes (S.left source.old) (S.left source.new) front }
+    ensures ended { IfOk result (λ output. output.status ≢ 3 → IsAtEnd (S.left source.new)) }
+{
+    match read_all(alloc, source, LIMIT) {
+        Ok(bytes) => Ok(short_output(alloc, command, &bytes)?),
+        Err(ReadEnd::TooLong) => Ok(too_long(alloc)?),
+        Err(ReadEnd::ReadFault) => Err(Halt::ReadFault),
+        Err(ReadEnd::Memory) => Err(Halt::Memory),
+    }
+}
+
+/// Writes a text, and answers its status, or 6 where the sink failed.
+pub fn deliver<K: Sink>(sink: &mut K, status: u8, text: &[u8]) -> u8
+    requires { IsDueStatus status }
+    ensures { Delivers status text.now (state_of K.held K.faults sink.old) (state_of K.held K.faults sink.new) result }
+{
+    match write_all(sink, text) {
+        Ok(()) => status,
+        Err(Failed) => 6,
+    }
+}
+
+/// Reads the source to its end, composes the output of the command, and writes it.
+pub fn answer_command<S: Source, K: Sink>(
+    alloc: Global,
+    command: Command,
+    source: &mut S,
+    sink: &mut K,
+) -> u8
+    ensures answers { Answers (DueCommand command)
+        (state_of S.left S.faults source.old) (state_of S.left S.faults source.new)
+        (state_of K.held K.faults sink.old) (state_of K.held K.faults sink.new) result }
+    ensures ended { IsDueStatus result → result ≢ 3 → IsAtEnd (S.left source.new) }
+    ensures untouched { (result ≡ 1) ⊎ (result ≡ 5) → sink.new ≡ sink.old }
+{
+    match command_output(alloc, command, source) {
+        Ok(output) => deliver(sink, output.status, &output.text),
+        Err(Halt::Memory) => 5,
+        Err(Halt::ReadFault) => 1,
+    }
+}
