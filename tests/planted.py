@@ -1,8 +1,9 @@
 """Bodies that give up: for each, the cases of a run that it would fail.
 
 A program may always answer that memory ran out, so a body that gives up on some inputs breaks no contract. Each entry
-of BODIES says on which inputs such a body gives up (or errs otherwise); this script counts the cases of
-`tests/run.sh` among them, names the first ones, and ends with 1 where a body has none.
+of BODIES says on which inputs such a body gives up (or errs otherwise); this script counts the generated cases of
+`tests/run.sh` among them, and of the fixed ones those of families and sizes, names the first ones, and ends with 1
+where a body has none.
 
     python3 tests/planted.py [--count N] [--whole]
 """
@@ -12,13 +13,18 @@ import os
 import sys
 from concurrent.futures import ProcessPoolExecutor
 from dataclasses import dataclass
+from functools import partial
 from pathlib import Path
 
 HERE = Path(__file__).resolve().parent
 sys.path.insert(0, str(HERE))
 
 from built import BUILT, WHOLE  # noqa: E402
+from case import Case  # noqa: E402
 from generate import generated_case  # noqa: E402
+from generators.families import family_cases  # noqa: E402
+from generators.operations import FORMS  # noqa: E402
+from generators.sizes import size_cases  # noqa: E402
 from reference.due import due  # noqa: E402
 from reference.faults import Fault  # noqa: E402
 from reference.job_text import read_job  # noqa: E402
@@ -69,15 +75,46 @@ def has_form(form):
     return lambda seen: any(statement.operation.form == form for statement in seen.statements())
 
 
-def variants(seen):
-    """The greatest number of variants that is printed for an operation."""
+def counts(seen):
+    """For each derived operation its form and the number of its variants."""
     if not seen.derived():
-        return 0
-    return max(int(line.split()[1]) for line in seen.output.decode().split("\n") if line.startswith("variants "))
+        return []
+    found = [int(line.split()[1]) for line in seen.output.decode().split("\n") if line.startswith("variants ")]
+    return list(zip((made.form for made in seen.derived()), found))
+
+
+def has_family(form, least):
+    """A body that gives up where a family of this form has at least so many variants."""
+    return lambda seen: any(made == form and count >= least for made, count in counts(seen))
+
+
+def has_rows(form, least):
+    """A body that gives up where a statement of this form has a work matrix with at least so many rows or columns."""
+    return lambda seen: any(
+        statement.operation.form == form and longest(seen, statement) >= least for statement in seen.statements())
+
+
+def longest(seen, statement):
+    """The rows or the columns of a statement's work matrix, whichever are more."""
+    work = seen.job.matrices[statement.work]
+    return max(work.rows, work.cols)
+
+
+def verifies(form):
+    """A body that gives up where a matrix of this form is found right."""
+    return lambda seen: seen.does("verify") and seen.status == 0 and any(
+        statement.operation.form == form for statement in seen.job.statements)
+
+
+def verifies_long(least, at):
+    """A body that gives up where a matrix with at least so many rows (0) or columns (1) is found right."""
+    return lambda seen: seen.does("verify") and seen.status == 0 and any(
+        (seen.job.matrices[s.work].rows, seen.job.matrices[s.work].cols)[at] >= least for s in seen.job.statements)
 
 
 BODIES = {
     "statements with a factor of more than three rows": lambda s: any(m.rows > 3 for _, m in s.factors()),
+    "statements with an inner dimension above 204": lambda s: any(m.rows > 204 for _, m in s.factors()),
     "statements with a lower factor": has_factor("lower"),
     "statements with a unitlower factor": has_factor("unitlower"),
     "statements with an upper factor": has_factor("upper"),
@@ -96,7 +133,8 @@ BODIES = {
     "run of four statements": lambda s: len(s.statements()) > 3,
     "run with a block above 1": lambda s: s.does("run") and s.words[2] != "1",
     "run with eight matrices": lambda s: s.does("run") and len(s.job.matrices) > 7,
-    "families of more than six variants": lambda s: variants(s) > 6,
+    "families of more than six variants": lambda s: any(count > 6 for _, count in counts(s)),
+    "derive of more than 1,000 variants": lambda s: sum(count for _, count in counts(s)) > 1000,
     "more than three prints": lambda s: s.does("run") and len(s.job.prints) > 3,
     "a bad byte behind line 20": lambda s: (s.refused_line() or ("", 0))[0] == "BadByte" and s.refused_line()[1] > 20,
     "refusals of inputs above 400 bytes": lambda s: s.refused_line() and len(s.data) > 400,
@@ -122,10 +160,41 @@ FORM_BODIES = {
 }
 
 
-def seen(built, index):
-    """The generated case of this number as it is looked at."""
-    case = generated_case("1", index, built)
-    status, output = due(case.words, case.data, built)
+BODIES |= {f"families of the form {form}": has_family(form, 1) for form in FORMS}
+# A search found no family of the form ldl with more than 80.
+BODIES |= {f"families of the form {form} from {least} variants on": has_family(form, least)
+           for form in FORMS if form != "ldl" for least in (100, 300)}
+BODIES |= {f"families of the form {form} with four dimensions": (
+    lambda s, form=form: any(made.form == form and len(made.dims) == 4 for made in s.derived()))
+    for form in ("assign", "left", "right", "sylvester")}
+FORM_BODIES |= {f"statements of the form {form} from {least} rows or columns on": has_rows(form, least)
+                for form in FORMS for least in (128, 129)}
+FORM_BODIES |= {f"statements of the form {form} with 1,024 rows or columns": has_rows(form, 1024)
+                for form in ("assign", "left", "right", "lu", "ldl")}
+FORM_BODIES |= {f"verify of the form {form}": verifies(form) for form in FORMS}
+FORM_BODIES |= {f"verify from {least} {'columns' if at else 'rows'} on": verifies_long(least, at)
+                for least in (65, 129, 1024) for at in (0, 1)}
+
+
+def chosen_cases(built, count):
+    """The generated cases by their numbers, and the fixed ones of families and sizes, each with what is due if it is
+    known."""
+    drawn = [(partial(generated_case, "1", index, built), None) for index in range(count)]
+    return drawn + [(partial(same, case), None) for case in family_cases()] + [
+        (partial(same, case), known) for case, known in size_cases()]
+
+
+def same(case):
+    """A fixed case, with its input made."""
+    return Case(case.name, case.words, case.data()) if callable(case.data) else case
+
+
+def seen(built, chosen):
+    """A case as it is looked at: its name, and the bodies that it refuses."""
+    make, known = chosen
+    case = make()
+    known = known() if callable(known) else known
+    status, output = known or due(case.words, case.data, built)
     job = None
     try:
         text = scan(case.data)
@@ -145,7 +214,8 @@ def main():
     arguments = parser.parse_args()
     built = WHOLE if arguments.whole else BUILT
     with ProcessPoolExecutor(len(os.sched_getaffinity(0))) as pool:
-        found = list(pool.map(seen, [built] * arguments.count, range(arguments.count), chunksize=20))
+        cases = chosen_cases(built, arguments.count)
+        found = list(pool.map(seen, [built] * len(cases), cases, chunksize=10))
     missed = 0
     for body in list(BODIES) + (list(FORM_BODIES) if built.run_every_form and built.verify else []):
         cases = [name for name, refused in found if body in refused]

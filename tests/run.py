@@ -20,9 +20,12 @@ from built import BUILT, WHOLE  # noqa: E402
 from case import Case, encoded, load, save  # noqa: E402
 from generate import generated_case  # noqa: E402
 from generators.cuts import cut_cases  # noqa: E402
+from generators.documents import document_cases  # noqa: E402
+from generators.families import family_cases  # noqa: E402
 from generators.grids import grid_cases  # noqa: E402
 from generators.limits import limit_cases  # noqa: E402
 from generators.pivots import pivot_cases  # noqa: E402
+from generators.sizes import size_cases  # noqa: E402
 from generators.streams import stream_cases  # noqa: E402
 from reference.due import due  # noqa: E402
 
@@ -99,10 +102,10 @@ def generated(program, built, seed, index):
 
 @lru_cache
 def fixed_cases(built):
-    """The cases that are the same in every run, each with the answer that is due, or None where the reference says it;
-    made once, before the processes of the pool begin."""
-    cases = [*limit_cases(), *grid_cases(built), *pivot_cases(), *cut_cases(built)]
-    return [(case, None) for case in cases] + list(stream_cases())
+    """The cases that are the same in every run, each with the answer that is due, a function that makes it, or None
+    where the reference says it; made once, before the processes of the pool begin. Great ones come first."""
+    cases = [*limit_cases(), *family_cases(), *grid_cases(built), *pivot_cases(), *cut_cases(built)]
+    return list(size_cases()) + [(case, None) for case in cases] + list(stream_cases()) + list(document_cases())
 
 
 def fixed(program, built, number):
@@ -110,6 +113,7 @@ def fixed(program, built, number):
     case, known = fixed_cases(built)[number]
     if callable(case.data):
         case = Case(case.name, case.words, case.data())
+    known = known() if callable(known) else known
     return compared(program, case, *(known or due(case.words, case.data, built)))
 
 

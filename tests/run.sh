@@ -19,4 +19,8 @@ if [ "$status" -ne 2 ]; then
     echo '0 passed, 1 failed'
     exit 1
 fi
+if [ "$program" = "$root/flame" ] && ! sh "$root/tests/script.sh"; then
+    echo '0 passed, 1 failed'
+    exit 1
+fi
 FLAME=$program exec python3 "$root/tests/run.py" "$@"
