@@ -43,7 +43,7 @@ use Rattle.block_tasks.specs.Effects.{AreKnown, block_structure}
 use Rattle.block_tasks.proofs.EffectValues.{solved_left}
 use Rattle.block_tasks.proofs.TaskTests.{is_task, is_task-self, is_task-or}
 use Rattle.statement_runs.specs.StatementRuns.{IsStatementRun}
-use Rattle.statement_runs.proofs.StatementRuns.{settled, update_own, sizes}
+use Rattle.statement_runs.proofs.StatementRuns.{settled, update_own, sizes, solved_stays, DoneBefore, needed_ran, needed_by_done}
 use Rattle.block_tasks.proofs.SolveTasks.{operation_tasks, IsSolveTask, DependsOn, solve_of, solve-is, solve-needs, has-solve}
 use Rattle.block_tasks.proofs.TermSums.{HasTerms, terms_sum, terms-whole, terms-other, IsSharedSum, work_block-inside}
 use Rattle.statement_runs.proofs.StepValues.{value-of, table-first}
@@ -111,18 +111,7 @@ module _ (m b : ℕ) (two : 2 ≤ m) (pos : 0 < b) (op : Operation) (knowns : Li
 
   -- a block that was solved stays
   stays : (s a f t : ℕ) → s < t → t ≤ f → f ≤ n → did s ≡ true → task s ≡ solve_of a a → w t a a ≡ w (suc s) a a
-  stays s a f zero before le f_le ran is = absurd (omega arith)
-  stays s a f (suc t) before le f_le ran is = elim (cases_eq s t) [
-    | inl same ↦ rw same refl
-    | inr other ↦ (let earlier : w t a a ≡ w (suc s) a a = stays s a f t (omega arith) (omega arith) f_le ran is in
-        elim (cases_eq (task t).i a) [
-          | inr x ↦ run.elsewhere t (omega arith) a a (inl x) ∙ earlier
-          | inl x ↦ elim (cases_eq (task t).j a) [
-            | inr y ↦ run.elsewhere t (omega arith) a a (inr y) ∙ earlier
-            | inl y ↦ absurd (let late : t ≤ s = settled m b op knowns work counts n task did known_at w run t s (omega arith) (omega arith) (inl (rw is refl, rw is (sym x), rw is (sym y))) in omega arith)
-          ]
-        ])
-  ]
+  stays = solved_stays m b op knowns work counts n task did known_at w run
 
   -- ---- a step that failed
 
@@ -138,16 +127,13 @@ module _ (m b : ℕ) (two : 2 ≤ m) (pos : 0 < b) (op : Operation) (knowns : Li
 
     -- a task that ran before the step
     abbrev Done : Task → Type 0
-    Done u = (s : ℕ) × (s < f) × (did s ≡ true) × (task s ≡ u)
+    Done = DoneBefore m b op knowns work counts n task did known_at w run f f_in ready
 
     needed : (p : ℕ) (v : Task) → p < n → p ≤ f → (did p ≡ true) ⊎ (p ≡ f) → does_need op (task p) v ≡ true → has op counts v ≡ true → Done v
-    needed p v below le active need exists =
-        let r = run.all v exists in
-        let before : r.0 < p = run.needs_before p r.0 below r.1 (rw r.2 need) in
-        (r.0, omega arith, ready p r.0 below r.1 active (rw r.2 need), r.2)
+    needed = needed_ran m b op knowns work counts n task did known_at w run f f_in ready
 
     needed_by : (u v : Task) → Done u → does_need op u v ≡ true → has op counts v ≡ true → Done v
-    needed_by u v h need exists = needed h.0 v (omega (arith, h.1)) (omega (arith, h.1)) (inl h.2) (rw h.3 need) exists
+    needed_by = needed_by_done m b op knowns work counts n task did known_at w run f f_in ready
 
     block_has : (a d : ℕ) → a ≤ i → d ≤ a → is_work_block op counts a d ≡ true
     block_has a d x y =

@@ -111,3 +111,35 @@ module _ (m b : ℕ) (op : Operation) (knowns : List Grid) (work : Grid) (counts
   pub sizes : (p : ℕ) → p ≤ n → (i j : ℕ) → i < part_count work.rows b → j < part_count work.cols b → HasSize p i j
   sizes zero le i j row col = rw (run.start i j row col) (refl, refl)
   sizes (suc p) le i j row col = size-step p i j (omega arith) (sizes p (omega arith) i j row col)
+
+  -- ---- what stays, and what ran before
+
+  -- a diagonal block that was solved stays
+  pub solved_stays : (s a f t : ℕ) → s < t → t ≤ f → f ≤ n → did s ≡ true → task s ≡ solve_of a a → w t a a ≡ w (suc s) a a
+  solved_stays s a f zero before le f_le ran is = absurd (omega arith)
+  solved_stays s a f (suc t) before le f_le ran is = elim (cases_eq s t) [
+    | inl same ↦ rw same refl
+    | inr other ↦ (let earlier : w t a a ≡ w (suc s) a a = solved_stays s a f t (omega arith) (omega arith) f_le ran is in
+        elim (cases_eq (task t).i a) [
+          | inr x ↦ run.elsewhere t (omega arith) a a (inl x) ∙ earlier
+          | inl x ↦ elim (cases_eq (task t).j a) [
+            | inr y ↦ run.elsewhere t (omega arith) a a (inr y) ∙ earlier
+            | inl y ↦ absurd (let late : t ≤ s = settled t s (omega arith) (omega arith) (inl (rw is refl, rw is (sym x), rw is (sym y))) in omega arith)
+          ]
+        ])
+  ]
+
+  -- what a task that ran, or task f, needs ran before it
+  module _ (f : ℕ) (f_in : f < n) (ready : (p r : ℕ) → p < n → r < n → (did p ≡ true) ⊎ (p ≡ f) → does_need op (task p) (task r) ≡ true → did r ≡ true) where
+    -- a task that ran before the step
+    abbrev pub DoneBefore : Task → Type 0
+    DoneBefore u = (s : ℕ) × (s < f) × (did s ≡ true) × (task s ≡ u)
+
+    pub needed_ran : (p : ℕ) (v : Task) → p < n → p ≤ f → (did p ≡ true) ⊎ (p ≡ f) → does_need op (task p) v ≡ true → has op counts v ≡ true → DoneBefore v
+    needed_ran p v below le active need exists =
+        let r = run.all v exists in
+        let before : r.0 < p = run.needs_before p r.0 below r.1 (rw r.2 need) in
+        (r.0, omega arith, ready p r.0 below r.1 active (rw r.2 need), r.2)
+
+    pub needed_by_done : (u v : Task) → DoneBefore u → does_need op u v ≡ true → has op counts v ≡ true → DoneBefore v
+    needed_by_done u v h need exists = needed_ran h.0 v (omega (arith, h.1)) (omega (arith, h.1)) (inl h.2) (rw h.3 need) exists
