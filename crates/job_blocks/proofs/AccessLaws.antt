@@ -69,7 +69,7 @@ same-list x s t s_is t_is s_has t_has e = elim (cases_order s t) [
 -- ---- what a task names
 
 -- the numbers below n
-below-all : (n m : ℕ) → n ≤ m → All (λ i. i < m) (numbers_below n)
+pub below-all : (n m : ℕ) → n ≤ m → All (λ i. i < m) (numbers_below n)
 below-all zero m le = All-nil (λ i. i < m)
 below-all (suc n) m le =
     All-append (λ i. i < m) (numbers_below n) (n ∷ []) (below-all n m (omega arith)) (All-cons (λ i. i < m) n [] (omega arith) (All-nil (λ i. i < m)))

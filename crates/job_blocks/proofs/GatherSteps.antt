@@ -21,7 +21,7 @@ use Rattle.job_blocks.specs.BlockedJobs.{HaveBlockShapes, HaveBlockShapesOf, Are
 use Rattle.job_blocks.proofs.BlockCounts.{grid_blocks, blocks_in-more, number-before_next, number-below}
 
 -- matrices of blocks that agree are one
-gathered-same : (b rows cols : ℕ) (p q : Blocks) → 1 ≤ b → ((i j : ℕ) → i < part_count rows b → j < part_count cols b → p i j ≡ q i j)
+pub gathered-same : (b rows cols : ℕ) (p q : Blocks) → 1 ≤ b → ((i j : ℕ) → i < part_count rows b → j < part_count cols b → p i j ≡ q i j)
     → grid_of (gathered b p) rows cols ≡ grid_of (gathered b q) rows cols
 gathered-same b rows cols p q size agree =
     same_from_HasEntries (grid_of (gathered b p) rows cols) (grid_of (gathered b q) rows cols) (gathered b q)

@@ -9,7 +9,6 @@ ghost use Rattle.job_blocks.specs.BlockedJobs.{HasBlock, HasStatement, binding_a
 ghost use Rattle.job_blocks.specs.FactorBlocks.{HasFactorBlock, factor_at, work_at};
 
 use crate::job_blocks::JobBlocks;
-use crate::tables::has_pivots;
 use operation_spec::{Factor, Form, Task};
 use std::alloc::{AllocError, Global};
 use structure_rules::NumberList;
@@ -183,7 +182,7 @@ impl JobBlocks<'_> {
         ensures { IfOk result (λ reads. reads
             ≡ diagonal.now ++ list_reads (operation_at self.now s) (pivot_number self.now.job self.now.b s)) }
     {
-        if has_pivots(self.operation(s)) {
+        if self.has_pivots(s) {
             joined(alloc, diagonal, &[self.list(s)])
         } else {
             numbers(alloc, diagonal)

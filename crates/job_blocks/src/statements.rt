@@ -2,12 +2,12 @@
 
 ghost use Rattle.std.specs.Prelude.{◌≡◌, ◌<◌, ◌≤◌, length};
 ghost use Rattle.equation.specs.Jobs.{nth_grid};
-ghost use Rattle.step_replays.specs.Accesses.{statement_of};
+ghost use Rattle.step_replays.specs.Accesses.{has_pivots, statement_of};
 ghost use Rattle.job_blocks.specs.BlockedJobs.{HasBlock, HasStatement, IsBlockedJob, binding_at, operation_at};
 ghost use Rattle.job_blocks.specs.FactorBlocks.{term_at, work_at};
 
 use crate::job_blocks::JobBlocks;
-use crate::tables::operation_of;
+use crate::tables::{has_pivots, operation_of};
 use equation::Statement;
 use matrix_core::Matrix;
 use operation_spec::{Form, Operation, Term};
@@ -23,7 +23,7 @@ impl JobBlocks<'_> {
     }
 
     /// The operation of statement s.
-    pub(crate) fn operation(&self, s: u32) -> &Operation
+    pub fn operation(&self, s: u32) -> &Operation
         requires { HasStatement self.now s }
         ensures operation { result.now ≡ operation_at self.now s }
         ensures valid { IsBlockedJob self.now }
@@ -38,6 +38,14 @@ impl JobBlocks<'_> {
         ensures valid { IsBlockedJob self.now }
     {
         self.operation(s).form
+    }
+
+    /// Whether statement s tests its pivots in a step of its own.
+    pub fn has_pivots(&self, s: u32) -> bool
+        requires { HasStatement self.now s }
+        ensures { result ≡ has_pivots (operation_at self.now s) }
+    {
+        has_pivots(self.operation(s))
     }
 
     /// Term t of the operation of statement s, from 1.

@@ -3,7 +3,8 @@
 ghost use Rattle.std.specs.Prelude.{◌≡◌, ◌+◌, ◌*◌, ◌<◌, ◌≤◌, ◌^◌, if◌then◌else◌, IfOk};
 ghost use Rattle.residue_sums.specs.Sums.{part_count};
 ghost use Rattle.equation.specs.Jobs.{IsJob, IsStatement};
-ghost use Rattle.step_replays.specs.Accesses.{blocks_in, has_pivots, is_unit_structure, lists_of, operation_of};
+ghost use Rattle.block_tasks.specs.Inverses.{is_unit_triangle};
+ghost use Rattle.step_replays.specs.Accesses.{blocks_in, has_pivots, lists_of, operation_of};
 ghost use Rattle.task_graph.specs.Factors.{known};
 ghost use Rattle.job_blocks.specs.Tables.{block_cols, list_numbers, starts_of};
 
@@ -122,7 +123,7 @@ fn known(op: &Operation, n: u32) -> &Operand
 
 /// Whether the structure has ones on its diagonal.
 fn is_unit(s: Structure) -> bool
-    ensures { result ≡ is_unit_structure s }
+    ensures { result ≡ is_unit_triangle s }
 {
     match s {
         Structure::UnitLower | Structure::UnitUpper => true,

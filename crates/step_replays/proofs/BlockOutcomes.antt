@@ -1,38 +1,33 @@
 -- The block tasks of a statement in a replay of a job, in any form: one that fails does so at the statement's first bad pivot, and where no step
 -- failed the statement changes the matrices before it as it means to. Cited where the outcome of a statement is what it means.
-use Rattle.std.proofs.Common.{◌≡◌, ◌≢◌, ℕ, zero, suc, ◌+◌, ◌<◌, ◌≤◌, ◌⊎◌, inl, inr, Bool, true, false, List, length, All, refl, sym, ◌∙◌, ap, subst, arith}
-use Rattle.std.specs.Prelude.{slice_get, slice_set, Some}
-use Rattle.std.proofs.lemmas.Bool.{false≢true}
-use Rattle.residue_sums.specs.Grids.{Grid, AreResidues}
+use Rattle.std.proofs.Common.{◌≡◌, ◌≢◌, ℕ, suc, ◌+◌, ◌<◌, ◌≤◌, ◌⊎◌, inl, inr, Bool, true, List, length, refl, sym, ◌∙◌, ap, subst, arith}
+use Rattle.std.specs.Prelude.{slice_set}
+use Rattle.residue_sums.specs.Grids.{Grid}
 use Rattle.operation_spec.specs.declared.operation.Operation.{Operation}
 use Rattle.operation_spec.specs.declared.operation.Binding.{Binding}
 use Rattle.operation_spec.specs.declared.operation.Form.TheVariants.{Lu, Ldl}
 use Rattle.operation_spec.specs.declared.task.Kind.{Kind}
 use Rattle.operation_spec.specs.declared.task.Kind.TheVariants as kinds
 use Rattle.operation_spec.specs.declared.task.Task.{Task}
-use Rattle.operation_spec.specs.ValidOperations.{IsValid}
 use Rattle.task_graph.specs.Needs.{does_need}
 use Rattle.equation.specs.declared.job.Job.{Job}
 use Rattle.equation.specs.declared.job.Place.{Place}
 use Rattle.equation.specs.declared.job.Statement.{Statement}
-use Rattle.equation.specs.Jobs.{Fits, nth_grid, known_grids}
+use Rattle.equation.specs.Jobs.{nth_grid, known_grids}
 use Rattle.equation.specs.Meanings.{Changes}
 use Rattle.equation.proofs.JobMeanings.{AreKept}
 use Rattle.equation.specs.Pivots.{IsFirstBadPivot}
 use Rattle.flash_blocks.specs.Blocks.{Blocks, gathered, grid_of}
-use Rattle.block_tasks.specs.Counts.{AreCounts}
 use Rattle.block_tasks.specs.Effects.{bad_by, IsBadTask}
 use Rattle.statement_runs.specs.StatementRuns.{IsStatementRun, NoneBad, IsReady}
 use Rattle.statement_runs.proofs.AllForms.{run-satisfies, run-fails, none-first}
-use Rattle.step_replays.specs.declared.step.Step.{Step}
-use Rattle.step_replays.specs.Accesses.{operation_of, statement_of}
-use Rattle.step_replays.specs.Replays.{StepResult, Ran, Skipped, Failed, nth_step, nth_result, blocks_after, matrix_after, matrices_after, bad_step_by, IsReplay, IsResult}
-use Rattle.step_replays.specs.Fits.{counts_of, FitsJob}
-use Rattle.step_replays.proofs.StatementCuts.{HasWorkMatrix}
+use Rattle.step_replays.specs.Accesses.{operation_of}
+use Rattle.step_replays.specs.Replays.{Ran, Skipped, Failed, bad_step_by}
 use Rattle.step_replays.proofs.StatementsAfter.{after-statement}
 use Rattle.step_replays.proofs.ReplayRuns.{IsRange, is_ran, ran-value, known_at, IsStatementRun-replay, not-pivots, nth-before}
-use Rattle.step_replays.proofs.Stops.{need-ran, all-ran}
-use Rattle.step_replays.proofs.JobReplays.{JobReplay, own_valid, own_found, kept_fits, kept_counts, kept_residues, two, cuts, step_at, result_at, access_at, block_at, blocks_at, matrix_at, matrices_at, IsResultAt, IsStoppedAt, own_statement, own_operation, own_binding, own_counts}
+use Rattle.step_replays.proofs.KeptMatrices.{kept-at}
+use Rattle.step_replays.proofs.Stops.{unstopped, need-ran, all-ran}
+use Rattle.step_replays.proofs.JobReplays.{JobReplay, ran-active, failed-active, ran-done, failed-done, own_valid, own_found, kept_fits, kept_counts, kept_residues, two, cuts, step_at, result_at, blocks_at, matrix_at, matrices_at, IsResultAt, own_statement, own_operation, own_binding, own_counts}
 
 -- ---- a bad pivot of a block task, as one of its step
 
@@ -51,25 +46,8 @@ module _ (job : Job) (b : ℕ) (blocks : ℕ → Blocks) (s : Statement) (u : Ta
   step-bad kinds.Right other h = h
   step-bad kinds.Solve other h = h
 
--- ---- outcomes of which a step isn't skipped
-
-ran-active : (x : StepResult) → is_ran x ≡ true → x ≢ Skipped
-ran-active (Ran v) h = λ e. false≢true (sym (ap is_ran e))
-ran-active Skipped h = absurd (false≢true h)
-ran-active (Failed place) h = absurd (false≢true h)
-
-is_failed : StepResult → Bool
-is_failed (Ran v) = false
-is_failed Skipped = false
-is_failed (Failed place) = true
-
-failed-active : (x : StepResult) (place : Place) → x ≡ Failed place → x ≢ Skipped
-unfolding is_failed
-failed-active x place e f = let no : false ≡ true = sym (ap is_failed f) ∙ ap is_failed e in false≢true no
-
 module _ (replay : JobReplay)
-    (t base n : ℕ) (t_in : t < length replay.job.statements) (range : IsRange replay.job replay.b replay.steps t base n)
-    (kept : AreKept replay.job (matrices_at replay base)) where
+    (t base n : ℕ) (t_in : t < length replay.job.statements) (range : IsRange replay.job replay.b replay.steps t base n) where
   abbrev op : Operation
   op = own_operation replay t
 
@@ -78,6 +56,9 @@ module _ (replay : JobReplay)
 
   abbrev before : List Grid
   before = matrices_at replay base
+
+  abbrev kept : AreKept replay.job (matrices_at replay base)
+  kept = kept-at replay base (omega (arith, range.within))
 
   abbrev task : ℕ → Task
   task p = (step_at replay (base + p)).task
@@ -101,10 +82,10 @@ module _ (replay : JobReplay)
   block_task p below = not-pivots replay t base n t_in range p below
 
   -- none that ran met a bad pivot
-  good : NoneBad replay.job.modulus replay.b op n task did blocks
+  pub good : NoneBad replay.job.modulus replay.b op n task did blocks
   good p place below ran bad =
       let v = ran-value (result_at replay (base + p)) ran in
-      let h : IsResultAt replay (base + p) (Ran v.0) = subst (IsResultAt replay (base + p)) v.1 (replay.outcomes.each (base + p) (place_in p below)) in
+      let h : IsResultAt replay (base + p) (Ran v.0) = subst (IsResultAt replay (base + p)) v.1 (replay.outcomes.each (base + p) (ran-done replay (base + p) v.0 v.1)) in
       let none = rw (range.each p below).0 at h.1 in
       none place (step-bad replay.job replay.b (blocks_at replay (base + p)) (own_statement replay t) (task p) place (task p).kind (block_task p below) bad)
 
@@ -112,11 +93,11 @@ module _ (replay : JobReplay)
   needed : (p r : ℕ) → p < n → r < n → result_at replay (base + p) ≢ Skipped → does_need op (task p) (task r) ≡ true → did r ≡ true
   needed p r p_in r_in active need =
       let v = need-ran replay (base + p) (base + r) (suc t) (place_in p p_in) (place_in r r_in) (range.each p p_in).0 (range.each r r_in).0
-      (block_task p p_in) (block_task r r_in) need active in
+      (block_task p p_in) (block_task r r_in) need (unstopped replay (base + p) active) in
       rw v.1 refl
 
   ready : (f : ℕ) (place : Place) → result_at replay (base + f) ≡ Failed place → IsReady op n task did f
-  ready f place failed p r p_in r_in (inl ran) need = needed p r p_in r_in (ran-active (result_at replay (base + p)) ran) need
+  ready f place failed p r p_in r_in (inl ran) need = (let v = ran-value (result_at replay (base + p)) ran in needed p r p_in r_in (ran-active (result_at replay (base + p)) v.0 v.1) need)
   ready f place failed p r p_in r_in (inr same) need =
       needed p r p_in r_in (failed-active (result_at replay (base + p)) place (ap (λ (x : ℕ). result_at replay (base + x)) same ∙ failed)) need
 
@@ -124,15 +105,15 @@ module _ (replay : JobReplay)
   pub block-fails : (f : ℕ) (place : Place) → f < n → result_at replay (base + f) ≡ Failed place
       → IsFirstBadPivot replay.job.modulus op (known_grids before bind) (nth_grid before bind.work) place
   block-fails f place below failed =
-      let h : IsResultAt replay (base + f) (Failed place) = subst (IsResultAt replay (base + f)) failed (replay.outcomes.each (base + f) (place_in f below)) in
+      let h : IsResultAt replay (base + f) (Failed place) = subst (IsResultAt replay (base + f)) failed (replay.outcomes.each (base + f) (failed-done replay (base + f) place failed)) in
       let bad : IsBadTask replay.job.modulus replay.b op (blocks f) (task f) place
       = task-bad replay.job replay.b (blocks_at replay (base + f)) (own_statement replay t) (task f) place (task f).kind (block_task f below) (rw (range.each f below).0 at h.1) in
       run-fails replay.job.modulus replay.b (two replay) replay.pos op (own_valid replay t t_in) before bind (kept_fits replay t t_in before kept) (own_counts replay t) (kept_counts replay t t_in before kept) n task did known blocks run (kept_residues replay t t_in before kept) good f below place (ready f place failed) bad
 
-  -- none failed so far
-  module _ (none : (q : ℕ) (place : Place) → q < base + n → ¬ (result_at replay q ≡ Failed place)) where
+  -- all of them were gone through, and none failed so far
+  module _ (ended : base + n ≤ replay.done) (none : (q : ℕ) (place : Place) → q < base + n → ¬ (result_at replay q ≡ Failed place)) where
     every-ran : (p : ℕ) → p < n → did p ≡ true
-    every-ran p below = let v = all-ran replay (base + n) range.within none (base + p) (omega arith) in rw v.1 refl
+    every-ran p below = let v = all-ran replay (base + n) ended none (base + p) (omega arith) in rw v.1 refl
 
     -- a form that factors has no bad pivot
     pub factors-good : (op.form ≡ Lu) ⊎ (op.form ≡ Ldl) → (place : Place) → ¬ (IsFirstBadPivot replay.job.modulus op (known_grids before bind) (nth_grid before bind.work) place)

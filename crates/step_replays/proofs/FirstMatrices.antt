@@ -1,18 +1,16 @@
 -- The matrices that a replay begins with are the job's, and a step that tests pivots leaves all matrices. Cited where the outcome of a
 -- replay is what the job means.
-use Rattle.std.proofs.Common.{◌≡◌, ◌≢◌, ℕ, zero, suc, ◌+◌, ◌*◌, ◌/◌, ◌%◌, ◌<◌, ◌≤◌, ◌⊎◌, inl, inr, Bool, true, false, if◌then◌else◌, List, length, get_or, map, All, refl, sym, ◌∙◌, ap, ap₂, subst, arith}
-use Rattle.std.specs.Prelude.{◌==◌, ◌&&◌, nat_lt}
-use Rattle.std.specs.List.{range_with_len}
-use Rattle.std.proofs.lemmas.Bool.{cases_Bool, cases_lt, lt-ltb}
+use Rattle.std.proofs.Common.{◌≡◌, ◌≢◌, ℕ, suc, ◌/◌, ◌%◌, ◌<◌, inl, inr, true, false, List, length, get_or, All, refl, sym, ◌∙◌, ap, ap₂, arith}
+use Rattle.std.specs.Prelude.{◌==◌, nat_lt}
+use Rattle.std.proofs.lemmas.Bool.{cases_lt, lt-ltb}
 use Rattle.std.proofs.lemmas.Bool.Decides.{nat_tests}
 use Rattle.std.proofs.lemmas.List.{ext_get_or}
 use Rattle.std.proofs.lemmas.List.Elements.{All-get_or}
 use Rattle.std.proofs.lemmas.List.FromFn.{get_or-map-range_with_len, length-map-range_with_len}
-use Rattle.residue_sums.specs.Sums.{part_count, part_length}
-use Rattle.residue_sums.specs.Grids.{Grid, IsFull, HasEntries, entry}
+use Rattle.residue_sums.specs.Sums.{part_count}
+use Rattle.residue_sums.specs.Grids.{Grid, IsFull, entry}
 use Rattle.residue_sums.proofs.Grids.{same_from_HasEntries}
 use Rattle.residue_sums.proofs.Parts.{part_below_count, index_from_place}
-use Rattle.operation_spec.specs.declared.task.Kind.TheVariants as kinds
 use Rattle.operation_spec.specs.declared.task.Task.{Task}
 use Rattle.equation.specs.declared.job.Job.{Job}
 use Rattle.equation.specs.Jobs.{nth_grid, no_grid}
@@ -21,7 +19,7 @@ use Rattle.flash_blocks.specs.Blocks.{Blocks, block_of, gathered, grid_of}
 use Rattle.dependence_queue.specs.declared.access.Access.{Access}
 use Rattle.block_tasks.proofs.BlockViews.{block_entry}
 use Rattle.step_replays.specs.declared.step.Step.{Step}
-use Rattle.step_replays.specs.Accesses.{blocks_in, block_number, numbered_block, pivot_number, access_of}
+use Rattle.step_replays.specs.Accesses.{blocks_in, block_number, pivot_number, access_of}
 use Rattle.step_replays.specs.Replays.{StepResult, nth_step, block_after, blocks_after, matrix_after, matrices_after, pivots_task}
 use Rattle.step_replays.specs.Fits.{FitsJob, IsAt}
 use Rattle.step_replays.proofs.Numbers.{IsBlock, number-below, numbered-is}
@@ -78,8 +76,8 @@ module _ (job : Job) (b : ℕ) (steps : List Step) (results : List StepResult) w
         = ap (λ (a : Access). a.write) access ∙ ap (λ (u : Task). (access_of job b (nth_step steps p).statement u).write) at.2 in
         absurd (omega (arith, list, same, number-below b job.matrices k i j is))
 
-    kept : (k i j : ℕ) → k < length job.matrices → blocks_after job b steps results (suc p) k i j ≡ blocks_after job b steps results p k i j
-    kept k i j below = elim (cases_lt i (part_count (nth_grid job.matrices k).rows b)) [
+    pub blocks-behind : (k i j : ℕ) → k < length job.matrices → blocks_after job b steps results (suc p) k i j ≡ blocks_after job b steps results p k i j
+    blocks-behind k i j below = elim (cases_lt i (part_count (nth_grid job.matrices k).rows b)) [
       | inr past ↦ (let e : nat_lt i (part_count (nth_grid job.matrices k).rows b) ≡ false = grind (arith, nat_tests) in rw e refl)
       | inl row ↦ elim (cases_lt j (part_count (nth_grid job.matrices k).cols b)) [
         | inr past ↦ (let e : nat_lt j (part_count (nth_grid job.matrices k).cols b) ≡ false = grind (arith, nat_tests) in
@@ -92,7 +90,7 @@ module _ (job : Job) (b : ℕ) (steps : List Step) (results : List StepResult) w
 
     matrix-kept : (k : ℕ) → k < length job.matrices → matrix_after job b steps results (suc p) k ≡ matrix_after job b steps results p k
     matrix-kept k below =
-        let same : blocks_after job b steps results (suc p) k ≡ blocks_after job b steps results p k = λ z. λ i. λ j. kept k i j below z in
+        let same : blocks_after job b steps results (suc p) k ≡ blocks_after job b steps results p k = λ z. λ i. λ j. blocks-behind k i j below z in
         ap (λ (w : Blocks). grid_of (gathered b w) (nth_grid job.matrices k).rows (nth_grid job.matrices k).cols) same
 
     pub matrices-kept : matrices_after job b steps results (suc p) ≡ matrices_after job b steps results p

@@ -1,11 +1,14 @@
--- A replay of steps that fit a valid job, as one thing, and short names for what its steps find. Cited by all that goes from a replay to what
--- the job means.
-use Rattle.std.proofs.Common.{◌≡◌, ℕ, suc, ◌<◌, ◌≤◌, List, length, slice_get, Some}
+-- Steps that fit a valid job, of which the first ones were gone through, as one thing, and short names for what they find. Cited by all that goes
+-- from a replay, or the front of one, to what the job means.
+use Rattle.std.proofs.Common.{◌≡◌, ◌≢◌, ℕ, suc, ◌<◌, ◌≤◌, inl, inr, Bool, true, false, List, length, slice_get, Some, sym, ◌∙◌, ap, arith}
+use Rattle.std.proofs.lemmas.Bool.{cases_lt, false≢true}
+use Rattle.std.proofs.lemmas.List.{get_or_past}
 use Rattle.std.proofs.lemmas.List.Elements.{All-get_or}
 use Rattle.residue_sums.specs.Grids.{Grid, AreResidues}
 use Rattle.operation_spec.specs.declared.operation.Operation.{Operation}
 use Rattle.operation_spec.specs.declared.operation.Binding.{Binding}
 use Rattle.equation.specs.declared.job.Job.{Job}
+use Rattle.equation.specs.declared.job.Place.{Place}
 use Rattle.equation.specs.declared.job.Statement.{Statement}
 use Rattle.operation_spec.specs.ValidOperations.{IsValid}
 use Rattle.equation.specs.Jobs.{Fits, IsJob, nth_grid, no_grid}
@@ -15,10 +18,36 @@ use Rattle.flash_blocks.specs.Blocks.{Blocks}
 use Rattle.dependence_queue.specs.declared.access.Access.{Access}
 use Rattle.step_replays.specs.declared.step.Step.{Step}
 use Rattle.step_replays.specs.Accesses.{operation_of, statement_of}
-use Rattle.step_replays.specs.Replays.{StepResult, nth_step, nth_access, nth_result, block_after, blocks_after, matrix_after, matrices_after, IsResult, IsStopped, IsReplay}
+use Rattle.step_replays.specs.Replays.{StepResult, Ran, Skipped, Failed, nth_step, nth_access, nth_result, block_after, blocks_after, matrix_after, matrices_after, IsResult, IsStopped, IsReplay, IsFront}
 use Rattle.step_replays.specs.Fits.{counts_of, FitsJob}
 use Rattle.step_replays.proofs.StatementCuts.{HasWorkMatrix, has-work_matrix, is_statement, operation-fits, operation-valid, operation-found, counts-before}
 
+-- ---- outcomes of which a step isn't skipped
+
+is_outcome : StepResult → Bool
+is_outcome (Ran v) = true
+is_outcome Skipped = false
+is_outcome (Failed place) = true
+
+outcome-active : (x : StepResult) → is_outcome x ≡ true → x ≢ Skipped
+unfolding is_outcome
+outcome-active x h e = false≢true (sym (ap is_outcome e) ∙ h)
+
+pub ran-active : (x : StepResult) (v : Grid) → x ≡ Ran v → x ≢ Skipped
+unfolding is_outcome
+ran-active x v e = outcome-active x (ap is_outcome e)
+
+pub failed-active : (x : StepResult) (place : Place) → x ≡ Failed place → x ≢ Skipped
+unfolding is_outcome
+failed-active x place e = outcome-active x (ap is_outcome e)
+
+-- ---- the replay
+
+-- a whole replay is the front of all steps
+pub whole-front : (job : Job) (b : ℕ) (steps : List Step) (results : List StepResult) → IsReplay job b steps results → IsFront job b steps results (length steps)
+whole-front job b steps results replay = record { within = omega arith; count = replay.count; each = replay.each }
+
+-- the first `done` steps were gone through
 pub record JobReplay : Type 0 where
   pub job : Job
   pub b : ℕ
@@ -27,7 +56,8 @@ pub record JobReplay : Type 0 where
   pub pos : 0 < b
   pub valid : IsJob job
   pub fits : FitsJob job b steps
-  pub outcomes : IsReplay job b steps results
+  pub done : ℕ
+  pub outcomes : IsFront job b steps results done
 
 module _ (replay : JobReplay) where
   pub two : 2 ≤ replay.job.modulus
@@ -45,6 +75,19 @@ module _ (replay : JobReplay) where
 
   abbrev pub result_at : ℕ → StepResult
   result_at s = nth_result replay.results s
+
+  -- a step that isn't skipped was gone through
+  pub active-done : (s : ℕ) → nth_result replay.results s ≢ Skipped → s < replay.done
+  active-done s active = elim (cases_lt s replay.done) [
+    | inl below ↦ below
+    | inr past ↦ absurd (active (get_or_past replay.results s Skipped (omega (arith, replay.outcomes.count))))
+  ]
+
+  pub ran-done : (s : ℕ) (v : Grid) → nth_result replay.results s ≡ Ran v → s < replay.done
+  ran-done s v ran = active-done s (ran-active (result_at s) v ran)
+
+  pub failed-done : (s : ℕ) (place : Place) → nth_result replay.results s ≡ Failed place → s < replay.done
+  failed-done s place failed = active-done s (failed-active (result_at s) place failed)
 
   -- blocks and matrices before a step
   abbrev pub block_at : ℕ → ℕ → Grid

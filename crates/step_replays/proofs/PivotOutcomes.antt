@@ -1,39 +1,31 @@
 -- The step that tests the pivots of a statement, in a replay of a job: it fails at the statement's first bad pivot, and where it ran there
 -- is none. Cited where the outcome of a statement is what it means.
-use Rattle.std.proofs.Common.{◌≡◌, ◌≢◌, ℕ, zero, suc, ◌+◌, ◌<◌, ◌≤◌, ◌⊎◌, inl, inr, Bool, true, false, List, length, get_or, All, refl, sym, ◌∙◌, ap, subst, arith}
+use Rattle.std.proofs.Common.{◌≡◌, ℕ, suc, ◌<◌, ◌≤◌, inl, inr, true, List, length, get_or, All, refl, sym, ◌∙◌, ap, subst, arith}
 use Rattle.std.proofs.lemmas.Bool.{cases_lt, false≢true}
 use Rattle.std.proofs.lemmas.List.{get_or-map, get_or_past, length-map}
 use Rattle.std.proofs.lemmas.List.Elements.{All-get_or}
 use Rattle.std.proofs.lemmas.List.FromFn.{get_or-map-range_with_len}
-use Rattle.residue_sums.specs.Sums.{part_count}
 use Rattle.residue_sums.specs.Grids.{Grid}
 use Rattle.operation_spec.specs.declared.operation.Operation.{Operation}
 use Rattle.operation_spec.specs.declared.operation.Binding.{Binding}
 use Rattle.operation_spec.specs.declared.operation.Form.{Form}
 use Rattle.operation_spec.specs.declared.operation.Form.TheVariants.{Assign, Left, Right, Sylvester, Lu, Ldl}
-use Rattle.operation_spec.specs.declared.task.Kind.TheVariants as kinds
-use Rattle.operation_spec.specs.declared.task.Task.{Task}
-use Rattle.operation_spec.specs.ValidOperations.{IsValid}
-use Rattle.equation.specs.declared.job.Job.{Job}
 use Rattle.equation.specs.declared.job.Place.{Place}
 use Rattle.equation.specs.Equations.{known_grid}
-use Rattle.equation.specs.Jobs.{Fits, nth_grid, no_grid, known_grids}
+use Rattle.equation.specs.Jobs.{nth_grid, no_grid, known_grids}
 use Rattle.equation.proofs.JobMeanings.{AreKept}
 use Rattle.equation.specs.Pivots.{IsFirstBadPivot}
-use Rattle.flash_blocks.specs.Blocks.{Blocks, block_of, gathered, grid_of}
+use Rattle.flash_blocks.specs.Blocks.{Blocks, block_of}
 use Rattle.block_tasks.specs.Effects.{AreKnown, bad_pivots}
-use Rattle.block_tasks.specs.Counts.{AreCounts}
 use Rattle.block_tasks.proofs.StatementSizes.{left-factor, right-factor, sylvester-factors}
-use Rattle.step_replays.specs.declared.step.Step.{Step}
-use Rattle.step_replays.specs.Accesses.{has_pivots, operation_of, statement_of}
-use Rattle.step_replays.specs.Replays.{StepResult, Ran, Skipped, Failed, nth_step, nth_result, blocks_after, matrix_after, matrices_after, known_blocks, IsReplay, IsResult, IsBadStep, pivots_task}
-use Rattle.step_replays.specs.Fits.{counts_of, FitsJob, IsAt}
-use Rattle.step_replays.proofs.Numbers.{IsBlock}
-use Rattle.step_replays.proofs.StatementCuts.{HasWorkMatrix}
+use Rattle.step_replays.specs.Accesses.{has_pivots}
+use Rattle.step_replays.specs.Replays.{Ran, Failed, known_blocks, IsBadStep, pivots_task}
+use Rattle.step_replays.specs.Fits.{IsAt}
 use Rattle.step_replays.proofs.ReplayBlocks.{cut-gathered, shape}
 use Rattle.step_replays.proofs.ReplayRuns.{no-parts}
+use Rattle.step_replays.proofs.KeptMatrices.{kept-at}
 use Rattle.step_replays.proofs.PivotSteps.{bad-left, left-bad, bad-right, right-bad, bad-sylvester, sylvester-bad}
-use Rattle.step_replays.proofs.JobReplays.{JobReplay, own_valid, kept_fits, kept_counts, own_fits, two, cuts, step_at, result_at, access_at, block_at, blocks_at, matrix_at, matrices_at, IsResultAt, IsStoppedAt, own_statement, own_operation, own_binding, own_counts}
+use Rattle.step_replays.proofs.JobReplays.{JobReplay, ran-done, failed-done, own_valid, kept_fits, kept_counts, own_fits, two, cuts, result_at, blocks_at, matrix_at, matrices_at, IsResultAt, own_statement, own_operation, own_binding, own_counts}
 
 module _ (replay : JobReplay) where
   nth-after : (s k : ℕ) → k < length replay.job.matrices → nth_grid (matrices_at replay s) k ≡ matrix_at replay s k
@@ -67,7 +59,6 @@ module _ (replay : JobReplay) where
   -- ---- the step
 
   module _ (t p : ℕ) (t_in : t < length replay.job.statements) (at : IsAt replay.steps p (suc t) pivots_task)
-      (kept : AreKept replay.job (matrices_at replay p))
       (some : has_pivots (own_operation replay t) ≡ true) where
     abbrev op : Operation
     op = own_operation replay t
@@ -77,6 +68,9 @@ module _ (replay : JobReplay) where
 
     abbrev before : List Grid
     before = matrices_at replay p
+
+    abbrev kept : AreKept replay.job (matrices_at replay p)
+    kept = kept-at replay p (omega (arith, at.0))
 
     abbrev found : ℕ → Blocks
     found = known_blocks (blocks_at replay p) bind
@@ -127,12 +121,12 @@ module _ (replay : JobReplay) where
     -- where the step failed
     pub pivots-fail : (place : Place) → result_at replay p ≡ Failed place → IsFirstBadPivot replay.job.modulus op (known_grids before bind) (nth_grid before bind.work) place
     pivots-fail place failed =
-        let h : IsResultAt replay p (Failed place) = subst (IsResultAt replay p) failed (replay.outcomes.each p at.0) in
+        let h : IsResultAt replay p (Failed place) = subst (IsResultAt replay p) failed (replay.outcomes.each p (failed-done replay p place failed)) in
         first-bad place op.form refl (there place (rw (at.1, at.2) at h.1))
 
     -- where it ran
     pub pivots-ran : (v : Grid) → result_at replay p ≡ Ran v → (place : Place) → ¬ (IsFirstBadPivot replay.job.modulus op (known_grids before bind) (nth_grid before bind.work) place)
     pivots-ran v ran place first =
-        let h : IsResultAt replay p (Ran v) = subst (IsResultAt replay p) ran (replay.outcomes.each p at.0) in
+        let h : IsResultAt replay p (Ran v) = subst (IsResultAt replay p) ran (replay.outcomes.each p (ran-done replay p v ran)) in
         let none : (place : Place) → IsBadStep replay.job replay.b (blocks_at replay p) (own_statement replay t) pivots_task place → ⊥ = rw (at.1, at.2) at h.1 in
         none place (back place (bad-first place op.form refl first))

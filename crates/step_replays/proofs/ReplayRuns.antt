@@ -1,37 +1,31 @@
 -- The block tasks of one statement, in a replay of a job, are a run of the statement on the blocks of its work matrix. Cited where a
 -- replay's outcome is what the job means.
-use Rattle.std.proofs.Common.{◌≡◌, ◌≢◌, ℕ, zero, suc, ◌+◌, ◌-◌, ◌*◌, ◌/◌, ◌%◌, ◌<◌, ◌≤◌, ◌⊎◌, inl, inr, Bool, true, false, if◌then◌else◌, List, [], ◌∷◌, length, map, get_or, All, refl, sym, ◌∙◌, ap, ap₂, subst, arith}
-use Rattle.std.specs.Prelude.{◌==◌, ◌&&◌, nat_lt, IsTrue, slice_index}
-use Rattle.std.specs.List.{range_with_len}
+use Rattle.std.proofs.Common.{◌≡◌, ◌≢◌, ℕ, zero, suc, ◌+◌, ◌-◌, ◌*◌, ◌<◌, ◌≤◌, ◌⊎◌, inl, inr, Bool, true, false, List, length, get_or, refl, sym, ◌∙◌, ap, arith}
 use Rattle.std.proofs.Math.Nat.{div-mul-le_self, mul-le-mul_right}
-use Rattle.std.proofs.lemmas.Bool.{cases_Bool, cases_eq, cases_lt, and_parts, false≢true}
-use Rattle.std.proofs.lemmas.Bool.Decides.{nat_tests}
+use Rattle.std.proofs.lemmas.Bool.{cases_eq, cases_lt, false≢true}
 use Rattle.std.proofs.lemmas.List.{get_or-map, get_or_past, length-map}
 use Rattle.std.proofs.lemmas.List.Elements.{All-get_or}
 use Rattle.std.proofs.lemmas.List.FromFn.{get_or-map-range_with_len}
-use Rattle.residue_sums.specs.Sums.{part_count, part_length}
-use Rattle.residue_sums.specs.Grids.{Grid, IsFull, AreResidues, entry}
-use Rattle.residue_sums.proofs.Parts.{part_count_covers}
+use Rattle.residue_sums.specs.Sums.{part_count}
+use Rattle.residue_sums.specs.Grids.{Grid}
 use Rattle.operation_spec.specs.declared.operation.Operation.{Operation}
 use Rattle.operation_spec.specs.declared.operation.Binding.{Binding}
 use Rattle.operation_spec.specs.declared.task.Kind.TheVariants as kinds
 use Rattle.operation_spec.specs.declared.task.Task.{Task}
-use Rattle.task_graph.specs.Tasks.{has, parts_of}
-use Rattle.task_graph.specs.Needs.{does_need}
+use Rattle.task_graph.specs.Tasks.{has}
 use Rattle.equation.specs.declared.job.Job.{Job}
 use Rattle.equation.specs.Equations.{known_grid}
 use Rattle.equation.specs.Jobs.{nth_grid, no_grid, known_grids}
 use Rattle.block_tasks.specs.Effects.{AreKnown}
 use Rattle.step_replays.specs.declared.step.Step.{Step}
-use Rattle.flash_blocks.specs.Blocks.{Blocks, block_of, gathered, grid_of}
+use Rattle.flash_blocks.specs.Blocks.{Blocks, block_of}
 use Rattle.step_replays.specs.Accesses.{block_number, operation_of, statement_of}
-use Rattle.step_replays.specs.Replays.{StepResult, Ran, Skipped, Failed, nth_step, nth_result, written, blocks_after, matrix_after, matrices_after, known_blocks, IsReplay}
-use Rattle.step_replays.proofs.StatementCuts.{HasWorkMatrix}
-use Rattle.step_replays.specs.Fits.{counts_of, FitsJob}
+use Rattle.step_replays.specs.Replays.{StepResult, Ran, Skipped, Failed, nth_step, written, known_blocks}
+use Rattle.step_replays.specs.Fits.{counts_of}
 use Rattle.statement_runs.specs.StatementRuns.{IsStatementRun}
 use Rattle.step_replays.proofs.Numbers.{IsBlock, same-number}
 use Rattle.step_replays.proofs.ReplayBlocks.{cut-gathered, write-is, task-block, other-block, written-block, no-block, ran-effect, shape, block-kind}
-use Rattle.step_replays.proofs.JobReplays.{JobReplay, own_fits, two, cuts, step_at, result_at, access_at, block_at, blocks_at, matrix_at, matrices_at, IsResultAt, IsStoppedAt, own_statement, own_operation, own_binding, own_counts}
+use Rattle.step_replays.proofs.JobReplays.{JobReplay, own_fits, cuts, step_at, result_at, blocks_at, matrix_at, matrices_at, own_operation, own_binding, own_counts}
 
 -- the step ran
 abbrev pub is_ran : StepResult → Bool
@@ -176,7 +170,7 @@ module _ (replay : JobReplay)
     known_are = known_are;
     ran = λ p below ran.
         let v = ran-value (result_at replay (base + p)) ran in
-        let effect = ran-effect replay (base + p) t v.0 (step-in p below) (range.each p below).0 (not-pivots p below) v.1 in
+        let effect = ran-effect replay (base + p) t v.0 (range.each p below).0 (not-pivots p below) v.1 in
         let block : blocks_at replay (base + suc p) bind.work (task p).i (task p).j ≡ v.0
         = ap (λ (s : ℕ). blocks_at replay s bind.work (task p).i (task p).j) (next p)
         ∙ written-block replay (base + p) bind.work (task p).i (task p).j (task-is p below) (writes p below)

@@ -1,7 +1,8 @@
--- Which steps run: where none failed, all; and what a step that isn't skipped needs ran before it.
-use Rattle.std.proofs.Common.{◌≡◌, ◌≢◌, ℕ, zero, suc, min, ◌+◌, ◌-◌, ◌*◌, ◌/◌, ◌%◌, ◌<◌, ◌≤◌, ◌⊎◌, inl, inr, Bool, true, false, not, if◌then◌else◌, List, [], ◌∷◌, length, refl, sym, ◌∙◌, ap, ap₂, subst, arith}
-use Rattle.std.specs.Prelude.{◌==◌, ◌&&◌, ◌||◌, nat_lt, IsTrue}
-use Rattle.std.proofs.lemmas.Bool.{cases_Bool, cases_eq, and_parts, or_cases, eqb-true, false≢true}
+-- Which steps run: where none of those gone through failed, all; and what a step that isn't stopped needs ran before it, whether it was gone through
+-- or is the next one.
+use Rattle.std.proofs.Common.{◌≡◌, ◌≢◌, ℕ, zero, suc, min, ◌<◌, ◌≤◌, ◌⊎◌, inl, inr, Bool, true, false, not, List, [], ◌∷◌, length, refl, sym, ◌∙◌, ap, ap₂, subst, arith}
+use Rattle.std.specs.Prelude.{◌==◌, ◌&&◌, ◌||◌, IsTrue}
+use Rattle.std.proofs.lemmas.Bool.{cases_Bool, and_parts, or_cases, eqb-true, false≢true}
 use Rattle.std.proofs.lemmas.Bool.Decides.{nat_tests}
 use Rattle.residue_sums.specs.Grids.{Grid}
 use Rattle.operation_spec.specs.declared.operation.Operation.{Operation}
@@ -14,21 +15,19 @@ use Rattle.operation_spec.specs.declared.task.Task.{Task}
 use Rattle.task_graph.specs.Needs.{is_solve, solves, does_need, needs_by, left_needs, right_needs, solve_needs, factors_diagonal}
 use Rattle.equation.specs.declared.job.Job.{Job}
 use Rattle.equation.specs.declared.job.Place.{Place}
-use Rattle.step_replays.specs.declared.step.Step.{Step}
 use Rattle.dependence_queue.specs.declared.access.Access.{Access}
-use Rattle.step_replays.specs.Accesses.{block_number, work_number, factor_number, reads_of, left_reads, right_reads, solve_reads, write_of, access_of, operation_of, statement_of, pivot_number}
+use Rattle.step_replays.specs.Accesses.{work_number, factor_number, reads_of, left_reads, right_reads, solve_reads, access_of, operation_of, statement_of, pivot_number}
 use Rattle.dependence_queue.specs.Conflicts.{has_number, conflicts}
-use Rattle.step_replays.specs.Replays.{StepResult, Ran, Skipped, Failed, nth_step, nth_result, IsStop, IsStopped, IsResult, IsReplay}
-use Rattle.step_replays.specs.Fits.{FitsJob}
+use Rattle.step_replays.specs.Replays.{StepResult, Ran, Skipped, Failed, IsStop}
 use Rattle.step_replays.proofs.ReplayBlocks.{write_of-block}
-use Rattle.step_replays.proofs.JobReplays.{JobReplay, two, cuts, step_at, result_at, access_at, block_at, blocks_at, matrix_at, matrices_at, IsResultAt, IsStoppedAt, own_statement, own_operation, own_binding, own_counts}
+use Rattle.step_replays.proofs.JobReplays.{JobReplay, active-done, step_at, result_at, IsResultAt, IsStoppedAt}
 
 -- ---- what is needed is in conflict
 
-has-here : (x : ℕ) (ys : List ℕ) → has_number (x ∷ ys) x ≡ true
+pub has-here : (x : ℕ) (ys : List ℕ) → has_number (x ∷ ys) x ≡ true
 has-here x ys = let e : (x == x) ≡ true = grind (arith, nat_tests) in rw e refl
 
-has-later : (x y : ℕ) (ys : List ℕ) → has_number ys x ≡ true → has_number (y ∷ ys) x ≡ true
+pub has-later : (x y : ℕ) (ys : List ℕ) → has_number ys x ≡ true → has_number (y ∷ ys) x ≡ true
 has-later x y ys h = elim (cases_Bool (x == y)) [ inl e ↦ rw e refl | inr e ↦ rw (e, h) refl ]
 
 solves-block : (v : Task) (i j : ℕ) → solves v i j ≡ true → (v.i ≡ i) × (v.j ≡ j)
@@ -124,7 +123,7 @@ module _ (replay : JobReplay) where
   HasFailed s = (place : Place) × (result_at replay s ≡ Failed place)
 
   -- a step that was stopped comes after one that failed
-  failed-before : (N s : ℕ) → s < N → s < length replay.steps → IsStop (result_at replay s) → (q : ℕ) × (q ≤ s) × HasFailed q
+  failed-before : (N s : ℕ) → s < N → s < replay.done → IsStop (result_at replay s) → (q : ℕ) × (q ≤ s) × HasFailed q
   failed-before zero s below s_in stop = absurd (omega arith)
   failed-before (suc N) s below s_in stop = go (result_at replay s) refl stop (replay.outcomes.each s s_in) (λ q q_in q_stop. failed-before N q (omega arith) (omega arith) q_stop)
     where
@@ -142,32 +141,36 @@ module _ (replay : JobReplay) where
   ran-or_stop (Failed place) = inr tt
 
   -- where none of the first steps failed, all of them ran
-  pub all-ran : (N : ℕ) → N ≤ length replay.steps → ((q : ℕ) (place : Place) → q < N → ¬ (result_at replay q ≡ Failed place)) → (s : ℕ) → s < N → (v : Grid) × (result_at replay s ≡ Ran v)
+  pub all-ran : (N : ℕ) → N ≤ replay.done → ((q : ℕ) (place : Place) → q < N → ¬ (result_at replay q ≡ Failed place)) → (s : ℕ) → s < N → (v : Grid) × (result_at replay s ≡ Ran v)
   all-ran N le none s below = elim (ran-or_stop (result_at replay s)) [
     | inl ran ↦ ran
     | inr stop ↦ (let f = failed-before (suc s) s (omega arith) (omega arith) stop in absurd (none f.0 f.2.0 (omega (arith, f.1)) f.2.1))
   ]
 
-  -- what a step that wasn't skipped is in conflict with ran, if it comes before
-  pub conflict-ran : (r p : ℕ) → r < p → p < length replay.steps → IsTrue (conflicts (step_at replay r).access (step_at replay p).access) → result_at replay p ≢ Skipped → (v : Grid) × (result_at replay r ≡ Ran v)
-  conflict-ran r p before p_in conflict active = elim (ran-or_stop (result_at replay r)) [
-    | inl ran ↦ ran
-    | inr stop ↦ absurd (go (result_at replay p) refl active (replay.outcomes.each p p_in) (r, before, stop, conflict))
-  ]
+  -- a step that wasn't skipped isn't stopped
+  pub unstopped : (p : ℕ) → result_at replay p ≢ Skipped → ¬ (IsStoppedAt replay p)
+  unstopped p active = go (result_at replay p) refl (replay.outcomes.each p (active-done replay p active))
     where
-      go : (x : StepResult) → result_at replay p ≡ x → result_at replay p ≢ Skipped → IsResultAt replay p (result_at replay p) → IsStoppedAt replay p → ⊥
-      go (Ran v) e active is stopped = let h : IsResultAt replay p (Ran v) = subst (IsResultAt replay p) e is in h.0 stopped
-      go (Failed place) e active is stopped = let h : IsResultAt replay p (Failed place) = subst (IsResultAt replay p) e is in h.0 stopped
-      go Skipped e active is stopped = active e
+      go : (x : StepResult) → result_at replay p ≡ x → IsResultAt replay p (result_at replay p) → IsStoppedAt replay p → ⊥
+      go (Ran v) e is stopped = let h : IsResultAt replay p (Ran v) = subst (IsResultAt replay p) e is in h.0 stopped
+      go (Failed place) e is stopped = let h : IsResultAt replay p (Failed place) = subst (IsResultAt replay p) e is in h.0 stopped
+      go Skipped e is stopped = active e
 
-  -- what a block task that wasn't skipped needs ran
+  -- what a step that isn't stopped is in conflict with ran, if it comes before
+  pub conflict-ran : (r p : ℕ) → r < p → IsTrue (conflicts (step_at replay r).access (step_at replay p).access) → ¬ (IsStoppedAt replay p) → (v : Grid) × (result_at replay r ≡ Ran v)
+  conflict-ran r p before conflict free = elim (ran-or_stop (result_at replay r)) [
+    | inl ran ↦ ran
+    | inr stop ↦ absurd (free (r, before, stop, conflict))
+  ]
+
+  -- what a block task that isn't stopped needs ran
   pub need-ran : (p r s : ℕ) → p < length replay.steps → r < length replay.steps → (step_at replay p).statement ≡ s → (step_at replay r).statement ≡ s
       → (step_at replay p).task.kind ≢ kinds.Pivots → (step_at replay r).task.kind ≢ kinds.Pivots
-      → does_need (operation_of replay.job (statement_of replay.job s)) (step_at replay p).task (step_at replay r).task ≡ true → result_at replay p ≢ Skipped → (v : Grid) × (result_at replay r ≡ Ran v)
-  need-ran p r s p_in r_in p_is r_is p_block r_block need active =
+      → does_need (operation_of replay.job (statement_of replay.job s)) (step_at replay p).task (step_at replay r).task ≡ true → ¬ (IsStoppedAt replay p) → (v : Grid) × (result_at replay r ≡ Ran v)
+  need-ran p r s p_in r_in p_is r_is p_block r_block need free =
       let before : r < p = replay.fits.needs_before p r s (step_at replay p).task (step_at replay r).task (p_in, p_is, refl) (r_in, r_is, refl) need in
       let p_access : (step_at replay p).access ≡ access_of replay.job replay.b s (step_at replay p).task = (replay.fits.exists p p_in).2 ∙ ap (λ (x : ℕ). access_of replay.job replay.b x (step_at replay p).task) p_is in
       let r_access : (step_at replay r).access ≡ access_of replay.job replay.b s (step_at replay r).task = (replay.fits.exists r r_in).2 ∙ ap (λ (x : ℕ). access_of replay.job replay.b x (step_at replay r).task) r_is in
       let conflict : IsTrue (conflicts (step_at replay r).access (step_at replay p).access)
       = ap₂ (λ (x y : Access). conflicts x y) r_access p_access ∙ need-conflicts replay.job replay.b s (step_at replay p).task (step_at replay r).task p_block r_block need in
-      conflict-ran r p before p_in conflict active
+      conflict-ran r p before conflict free

@@ -2,7 +2,6 @@
 use Rattle.std.specs.Prelude.{◌≡◌, ℕ, zero, suc, ◌+◌, ◌-◌, ◌*◌, ◌/◌, ◌%◌, List, [], ◌∷◌, ◌++◌, length, map, take, Bool, true, false, ◌==◌, not, nat_lt, if◌then◌else◌, min, slice_index, slice_index_or}
 use Rattle.residue_sums.specs.Sums.{part_count}
 use Rattle.residue_sums.specs.Grids.{Grid}
-use Rattle.structure_rules.specs.declared.Structure.{Structure}
 use Rattle.structure_rules.specs.declared.Structure.TheVariants as structures
 use Rattle.structure_rules.specs.Structures.{stored_of}
 use Rattle.operation_spec.specs.declared.operation.Operation.{Operation}
@@ -21,6 +20,7 @@ use Rattle.equation.specs.declared.job.Statement.{Statement}
 use Rattle.equation.specs.Jobs.{nth_grid, no_grid}
 use Rattle.dependence_queue.specs.declared.access.Access.{Access}
 use Rattle.flash_blocks.specs.Blocks.{block_of, grid_of}
+use Rattle.block_tasks.specs.Inverses.{is_unit_triangle}
 
 -- ---- numbers: matrix by matrix, row by row, and then the pivot lists by statement
 
@@ -39,15 +39,10 @@ numbered_block b [] x = no_grid
 numbered_block b (g ∷ grids) x = if nat_lt x (part_count g.rows b * part_count g.cols b) then block_of b g (x / part_count g.cols b) (x % part_count g.cols b)
     else numbered_block b grids (x - part_count g.rows b * part_count g.cols b)
 
-abbrev pub is_unit_structure : Structure → Bool
-is_unit_structure structures.UnitLower = true
-is_unit_structure structures.UnitUpper = true
-is_unit_structure s = false
-
 -- the form tests its pivots in a step of its own
 abbrev pub has_pivots_by : Operation → Form → Bool
-has_pivots_by op (Left t) = not (is_unit_structure (known op t.known).structure)
-has_pivots_by op (Right u) = not (is_unit_structure (known op u.known).structure)
+has_pivots_by op (Left t) = not (is_unit_triangle (known op t.known).structure)
+has_pivots_by op (Right u) = not (is_unit_triangle (known op u.known).structure)
 has_pivots_by op (Sylvester t u minus) = true
 has_pivots_by op form = false
 

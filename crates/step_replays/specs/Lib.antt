@@ -1,3 +1,4 @@
 pub mod Accesses
 pub mod Replays
 pub mod Fits
+pub mod Fronts

@@ -134,6 +134,12 @@ pub record IsReplay (job : Job) (b : ℕ) (steps : List Step) (results : List St
   pub count : length results ≡ length steps
   pub each : (s : ℕ) → s < length steps → IsResult job b steps results s (nth_result results s)
 
+-- these are the outcomes of the first n steps of a job, gone through in their order
+pub record IsFront (job : Job) (b : ℕ) (steps : List Step) (results : List StepResult) (n : ℕ) : Type 0 where
+  pub within : n ≤ length steps
+  pub count : length results ≡ n
+  pub each : (s : ℕ) → s < n → IsResult job b steps results s (nth_result results s)
+
 -- ---- the outcome of a job
 
 -- no step failed
