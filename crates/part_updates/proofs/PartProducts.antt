@@ -1,16 +1,17 @@
 -- Products that are added part by part of their inner numbers.
-use Rattle.std.proofs.Common.{◌≡◌, ℕ, zero, ◌+◌, ◌-◌, ◌*◌, ◌%◌, ◌<◌, ◌≤◌, Bool, true, false, List, get_or, refl, sym, ap, ◌∙◌, arith}
+use Rattle.std.proofs.Common.{◌≡◌, ℕ, zero, ◌+◌, ◌-◌, ◌*◌, ◌%◌, ◌<◌, ◌≤◌, ◌⊎◌, inl, inr, Bool, true, false, List, get_or, refl, sym, ap, ◌∙◌, arith}
 use Rattle.std.proofs.Math.Nat.{mod-lt, zero-mod}
 use Rattle.residue_sums.specs.Residues.{Cong}
 use Rattle.residue_sums.specs.Sums.{sum_below}
 use Rattle.residue_sums.specs.Tables.{Table, product, times}
 use Rattle.residue_sums.specs.Grids.{Grid, IsFull, AreResidues, entry}
-use Rattle.residue_sums.proofs.Congruence.{Cong-by, Cong-from_multiples, Cong-add, Cong-sym, Cong-trans, Cong-mod, Cong-from_mod, mod_from_Cong, Cong-from_difference, difference_from_Cong}
+use Rattle.residue_sums.proofs.Congruence.{Cong-by, Cong-from_multiples, Cong-add, Cong-sym, Cong-mod, mod_from_Cong, Cong-from_difference, difference_from_Cong}
 use Rattle.residue_sums.proofs.Sums.{sum_below-same, sum_below-split}
 use Rattle.structure_rules.specs.declared.Structure.{Structure}
 use Rattle.matrix_algebra.proofs.Products.{times-assoc}
 use Rattle.equation.specs.Kernels.{IsUpdated, IsUpdatedLdl, combined}
-use Rattle.part_updates.specs.Changes.{added, panel_sum, part_product, IsIn, IsChanged}
+use Rattle.part_updates.proofs.PanelSums.{sum_below-range}
+use Rattle.part_updates.specs.Changes.{added, panel_sum, part_product, IsChanged}
 
 -- a table with another one added or subtracted, entry by entry
 pub combined-added : (m : ℕ) (minus : Bool) (a b : Table) (i j : ℕ) → combined m minus a b i j ≡ added m minus (a i j) (b i j)
@@ -44,6 +45,19 @@ pub panel_product : (m : ℕ) (a b : Table) (i j left inner height : ℕ) (panel
 panel_product m a b i j left inner height panel start holds =
     ap (λ (x : ℕ). x % m) (sum_below-same (λ k. a i (inner + k) * get_or panel ((j - left) * height + k) 0) (λ k. a i (inner + k) * b (inner + k) j) height
     (λ k below. rw (holds k below) refl))
+
+-- inner numbers at which the second factor is zero
+pub part_product-needed : (m : ℕ) (a b : Table) (i j inner height from n : ℕ) → inner ≤ from → from + n ≤ inner + height
+    → ((k : ℕ) → inner ≤ k → k < inner + height → (k < from) ⊎ (from + n ≤ k) → b k j ≡ 0)
+    → part_product m from n a b i j ≡ part_product m inner height a b i j
+part_product-needed m a b i j inner height from n start within zeros =
+    let at : (k : ℕ) → from + k ≡ inner + (from - inner + k) = λ k. omega arith in
+    let beside : (k : ℕ) → (k < from - inner) ⊎ (from - inner + n ≤ k) → (inner + k < from) ⊎ (from + n ≤ inner + k) =
+    λ k out. elim out [ inl before ↦ inl (omega arith) | inr behind ↦ inr (omega arith) ] in
+    ap (λ (x : ℕ). x % m) (sum_below-same (λ k. a i (from + k) * b (from + k) j)
+    (λ k. a i (inner + (from - inner + k)) * b (inner + (from - inner + k)) j) n (λ k below. rw (at k) refl)
+    ∙ sym (sum_below-range (λ k. a i (inner + k) * b (inner + k) j) height (from - inner) n (omega arith)
+    (λ k below out. rw (zeros (inner + k) (omega arith) (omega arith) (beside k out)) (omega arith))))
 
 module _ (m : ℕ) (minus : Bool) (s : Structure) (a b : Table) where
   -- no inner numbers

@@ -7,10 +7,10 @@ ghost use Rattle.part_updates.specs.Changes.{part_product, IsChanged};
 ghost use Rattle.part_updates.specs.ProductFactors.{second_table, AreFactors, HaveSmallEntries};
 
 use crate::changes::Change;
-use crate::updates::factors::{Factors, Piece, fill_second};
-use crate::updates::rows::Tile;
+use crate::updates::factors::{Factors, Piece, fill_second, needed_of};
+use crate::updates::rows::{Tile, is_plain};
 use crate::updates::tiles::update_panel;
-use matrix_parts::PartMut;
+use matrix_parts::{Oper, PartMut};
 use row_products::Panel;
 
 /// The inner numbers of a product from `inner` on, so many.
@@ -71,6 +71,36 @@ fn update_piece(
     update_panel(change, w, &factors.first, tile, entries, scratch);
 }
 
+/// Changes the columns of a piece by a part of a product, of whose inner numbers those are left out at which the second factor
+/// is zero by structure.
+fn update_needed(
+    change: &Change,
+    w: &mut PartMut<'_>,
+    factors: &Factors<'_>,
+    piece: Piece,
+    room: &mut [u64],
+)
+    requires part { IsPart w.old }
+    requires factors { AreFactors factors.now }
+    requires rows { op_rows factors.now.first ≡ w.old.rows }
+    requires cols { op_cols factors.now.second ≡ w.old.cols }
+    requires cols_in { piece.left + piece.lines ≤ w.old.cols }
+    requires within { piece.inner + piece.height ≤ op_cols factors.now.first }
+    requires few { piece.height < 2 ^ 31 }
+    requires room { piece.lines * piece.height + (3 * piece.height + 3 * piece.lines) ≤ length room.old }
+    requires old { (i j : ℕ) → i < w.old.rows → j < w.old.cols → entry (grid_of w.old) i j < change.now.m }
+    requires small { HaveSmallEntries factors.now }
+    ensures loan { loan_of w.new ≡ loan_of w.old }
+    ensures part { IsPart w.new }
+    ensures kept { IsKept w.old w.new }
+    ensures changed { IsChanged change.now.m change.now.minus change.now.inside
+        (part_product change.now.m piece.inner piece.height (op_table factors.now.first) (second_table change.now.m factors.now))
+        0 w.old.rows piece.left (piece.left + piece.lines) (grid_of w.old) (grid_of w.new) }
+{
+    let needed = needed_of(factors, piece);
+    update_piece(change, w, factors, needed, room);
+}
+
 /// Changes all columns by a part of a product.
 fn update_columns(
     change: &Change,
@@ -107,8 +137,27 @@ fn update_columns(
             inner: depth.inner,
             height: depth.height,
         };
-        update_piece(change, w, factors, piece, room);
+        update_needed(change, w, factors, piece, room);
         left += lines as u32;
+    }
+}
+
+/// The greatest height of a piece whose rows are copied before they are multiplied. It is short, so that a panel has many
+/// lines and each copy serves all of them.
+const COPIED_HEIGHT: u32 = 256;
+
+/// How high a piece is at most in a buffer of so many numbers.
+fn height_in(room: usize, a: &Oper<'_>) -> u32
+    requires some { 40 ≤ room }
+    requires few { room < 2 ^ 31 }
+    ensures some { 0 < result }
+    ensures fits { 40 * result ≤ room }
+{
+    let most = (room / 40) as u32;
+    if is_plain(a) {
+        most
+    } else {
+        u32::min(most, COPIED_HEIGHT)
     }
 }
 
@@ -135,7 +184,7 @@ pub(crate) fn update_in(
 {
     let _modulus = change.m.modulus();
     let all = factors.first.cols();
-    let most = (room.len() / 40) as u32;
+    let most = height_in(room.len(), &factors.first);
     let mut inner = 0;
     while inner < all {
         let height = u32::min(most, all - inner);

@@ -6,6 +6,7 @@ ghost use Rattle.structure_rules.specs.declared.Structure.TheVariants.{Diagonal}
 ghost use Rattle.matrix_parts.specs.Opers.{op_rows, op_cols, op_table, IsOper};
 ghost use Rattle.part_updates.specs.ProductFactors.{second_table, AreFactors, HaveSmallEntries};
 
+use crate::updates::spans::span_of;
 use matrix_parts::Oper;
 use operand_lines::fill_lines;
 use row_products::Reducer;
@@ -27,6 +28,45 @@ pub(crate) struct Piece {
     pub(crate) lines: usize,
     pub(crate) inner: u32,
     pub(crate) height: usize,
+}
+
+/// The piece without the inner numbers at which its lines, which are rows of an operand, are all zero by structure.
+fn needed_columns(o: &Oper<'_>, piece: Piece) -> Piece
+    requires rows_in { piece.left + piece.lines ≤ op_rows o.now }
+    requires cols_in { piece.inner + piece.height ≤ op_cols o.now }
+    ensures left { result.left ≡ piece.left }
+    ensures lines { result.lines ≡ piece.lines }
+    ensures from { piece.inner ≤ result.inner }
+    ensures within { result.inner + result.height ≤ piece.inner + piece.height }
+    ensures zero { (k j : ℕ) → piece.inner ≤ k → k < piece.inner + piece.height → (k < result.inner) ⊎ (result.inner + result.height ≤ k)
+        → piece.left ≤ j → j < piece.left + piece.lines → op_table o.now j k ≡ 0 }
+{
+    let _cols = o.cols();
+    let span = span_of(o, piece.left, piece.lines, piece.inner, piece.height);
+    Piece {
+        left: piece.left,
+        lines: piece.lines,
+        inner: piece.inner + span.begin as u32,
+        height: span.width,
+    }
+}
+
+/// The piece without the inner numbers at which its columns of the second factor are all zero by structure.
+pub(crate) fn needed_of(factors: &Factors<'_>, piece: Piece) -> Piece
+    requires cols_in { piece.left + piece.lines ≤ op_cols factors.now.second }
+    requires rows_in { piece.inner + piece.height ≤ op_rows factors.now.second }
+    ensures left { result.left ≡ piece.left }
+    ensures lines { result.lines ≡ piece.lines }
+    ensures from { piece.inner ≤ result.inner }
+    ensures within { result.inner + result.height ≤ piece.inner + piece.height }
+    ensures zero { (m k j : ℕ) → piece.inner ≤ k → k < piece.inner + piece.height → (k < result.inner) ⊎ (result.inner + result.height ≤ k)
+        → piece.left ≤ j → j < piece.left + piece.lines → second_table m factors.now k j ≡ 0 }
+{
+    if factors.scaled {
+        piece
+    } else {
+        needed_columns(&factors.second.turned(), piece)
+    }
 }
 
 /// Multiplies the numbers of a line, from a place of the panel on, by the diagonal of d from one place on.

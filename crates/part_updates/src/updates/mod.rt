@@ -13,6 +13,7 @@ ghost use Rattle.matrix_parts.specs.Opers.{op_rows, op_cols, op_table, IsOper};
 mod columns;
 mod factors;
 mod rows;
+mod spans;
 mod tiles;
 
 use crate::changes::Change;
@@ -23,10 +24,15 @@ use matrix_parts::{Oper, PartMut};
 use row_products::Reducer;
 use structure_rules::Structure;
 
-/// How many numbers the buffer has where the inner dimension is short, and where it is long.
+/// How many numbers the buffer has for a small block, where the inner dimension is short, and where it is long.
+const SMALL_ROOM: usize = 1536;
+
 const SHORT_ROOM: usize = 8192;
 
-const LONG_ROOM: usize = 40960;
+const LONG_ROOM: usize = 61440;
+
+/// The greatest inner dimension, and the greatest number of columns, that go in one piece through the small buffer.
+const SMALL: u32 = 32;
 
 /// The greatest inner dimension that goes in one piece through the short buffer.
 const SHORT: u32 = 204;
@@ -41,8 +47,10 @@ pub(crate) fn has_small_entries(m: Modulus, o: &Oper<'_>)
     let _rows = o.part.rows();
 }
 
-/// The update in a buffer of the stack that is quickly cleared.
-fn update_short(change: &Change, w: &mut PartMut<'_>, factors: &Factors<'_>)
+/// The update in a buffer of the stack of so many numbers, which is cleared first.
+fn update_within<const ROOM: usize>(change: &Change, w: &mut PartMut<'_>, factors: &Factors<'_>)
+    requires some_room { 40 ≤ ROOM }
+    requires little_room { ROOM < 2 ^ 31 }
     requires part { IsPart w.old }
     requires factors { AreFactors factors.now }
     requires rows { op_rows factors.now.first ≡ w.old.rows }
@@ -55,29 +63,11 @@ fn update_short(change: &Change, w: &mut PartMut<'_>, factors: &Factors<'_>)
     ensures updated { IsUpdated change.now.m change.now.minus change.now.inside (op_cols factors.now.first)
         (op_table factors.now.first) (second_table change.now.m factors.now) (grid_of w.old) (grid_of w.new) }
 {
-    let mut room = [0; SHORT_ROOM];
+    let mut room = [0; ROOM];
     update_in(change, w, factors, &mut room);
 }
 
-/// The update in the great buffer of the stack.
-fn update_long(change: &Change, w: &mut PartMut<'_>, factors: &Factors<'_>)
-    requires part { IsPart w.old }
-    requires factors { AreFactors factors.now }
-    requires rows { op_rows factors.now.first ≡ w.old.rows }
-    requires cols { op_cols factors.now.second ≡ w.old.cols }
-    requires residues { AreResidues change.now.m (grid_of w.old) }
-    requires small { HaveSmallEntries factors.now }
-    ensures loan { loan_of w.new ≡ loan_of w.old }
-    ensures part { IsPart w.new }
-    ensures kept { IsKept w.old w.new }
-    ensures updated { IsUpdated change.now.m change.now.minus change.now.inside (op_cols factors.now.first)
-        (op_table factors.now.first) (second_table change.now.m factors.now) (grid_of w.old) (grid_of w.new) }
-{
-    let mut room = [0; LONG_ROOM];
-    update_in(change, w, factors, &mut room);
-}
-
-/// The update in the buffer that suits its inner dimension.
+/// The update in the buffer that suits its sizes: to clear a great one takes longer than a small product.
 fn update_by(change: &Change, w: &mut PartMut<'_>, factors: &Factors<'_>)
     requires part { IsPart w.old }
     requires factors { AreFactors factors.now }
@@ -91,17 +81,20 @@ fn update_by(change: &Change, w: &mut PartMut<'_>, factors: &Factors<'_>)
     ensures updated { IsUpdated change.now.m change.now.minus change.now.inside (op_cols factors.now.first)
         (op_table factors.now.first) (second_table change.now.m factors.now) (grid_of w.old) (grid_of w.new) }
 {
-    if factors.first.cols() <= SHORT {
-        update_short(change, w, factors);
+    let inner = factors.first.cols();
+    if inner <= SMALL && w.cols() <= SMALL {
+        update_within::<SMALL_ROOM>(change, w, factors);
+    } else if inner <= SHORT {
+        update_within::<SHORT_ROOM>(change, w, factors);
     } else {
-        update_long(change, w, factors);
+        update_within::<LONG_ROOM>(change, w, factors);
     }
 }
 
 /// Adds `a * b` modulo m to the entries of the structure `inside` in w, or subtracts it where `minus` is true.
 ///
 /// With r rows and c columns in w, a has r rows and b has c columns; a has as many columns as b has rows. All entries are below
-/// m. No entry outside w or outside the structure changes. It takes no memory but 64 or 320 KB of the stack.
+/// m. No entry outside w or outside the structure changes. It takes no memory but 12, 64 or 480 KB of the stack.
 pub fn update(
     m: Modulus,
     minus: bool,
@@ -144,7 +137,7 @@ pub fn update(
 ///
 /// With r rows and c columns in w, a has r rows, b has c columns, and d is square: it has as many rows as a has columns and as b
 /// has rows. All entries are below m. No entry outside w or outside the structure changes. It is quick where d is diagonal, as the
-/// D of L * D * L' is. It takes no memory but 64 or 320 KB of the stack.
+/// D of L * D * L' is. It takes no memory but 12, 64 or 480 KB of the stack.
 pub fn update_ldl(
     m: Modulus,
     w: &mut PartMut<'_>,

@@ -1,10 +1,11 @@
 //! The sums of three rows of the first factor and of the lines of a panel of the second.
 
-ghost use Rattle.std.specs.Prelude.{◌≡◌, false, min, ℕ, ◌+◌, ◌-◌, ◌*◌, ◌<◌, ◌≤◌, length, slice_index};
+ghost use Rattle.std.specs.Prelude.{◌≡◌, false, min, ℕ, ◌+◌, ◌-◌, ◌*◌, ◌<◌, ◌≤◌, IsTrue, length, slice_index};
 ghost use Rattle.structure_rules.specs.declared.Structure.TheVariants.{General};
 ghost use Rattle.matrix_parts.specs.Opers.{op_rows, op_cols, op_table, IsOper};
 ghost use Rattle.part_updates.specs.Tiles.{IsTile, AreTileSums};
 
+use crate::updates::spans::span_of;
 use matrix_parts::Oper;
 use operand_lines::fill_lines;
 use row_products::{Panel, Reducer, Rows, three_row_sums};
@@ -26,6 +27,13 @@ pub(crate) fn rows_from(row: u32, rows: u32) -> usize
     ensures { result ≡ min 3 (rows - row) }
 {
     u32::min(3, rows - row) as usize
+}
+
+/// Whether the rows of an operand lie side by side as they are.
+pub(crate) fn is_plain(a: &Oper<'_>) -> bool
+    ensures { IsTrue result → (a.now.structure ≡ General) × (a.now.primed ≡ false) }
+{
+    a.structure == Structure::General && !a.primed
 }
 
 /// Part of row i of an operand that is general and isn't primed, as it lies in the matrix.
@@ -71,7 +79,7 @@ fn plain_sums(m: Reducer, a: &Oper<'_>, tile: Tile, panel: Panel<'_>, sums: &mut
     three_row_sums(m, rows, panel, tile.lines, sums);
 }
 
-/// The sums for any operand, whose rows are copied first.
+/// The sums for any operand, whose rows are copied first, but for inner numbers at which they are all zero by structure.
 fn filled_sums(
     m: Reducer,
     a: &Oper<'_>,
@@ -87,14 +95,22 @@ fn filled_sums(
     ensures sums { AreTileSums m a.now tile panel.entry sums.new }
     ensures range { (p : ℕ) → p < 3 * tile.lines → slice_index sums.new p < m }
 {
+    let _cols = a.cols();
     let count = rows_from(tile.row, a.rows());
-    fill_lines(a, tile.row, tile.inner, panel.height, count, rows);
+    let span = span_of(a, tile.row, count, tile.inner, panel.height);
+    let inner = tile.inner + span.begin as u32;
+    fill_lines(a, tile.row, inner, span.width, count, rows);
     let lines = Rows {
-        first: filled_row(rows, 0, panel.height),
-        second: filled_row(rows, usize::min(1, count - 1), panel.height),
-        third: filled_row(rows, usize::min(2, count - 1), panel.height),
+        first: filled_row(rows, 0, span.width),
+        second: filled_row(rows, usize::min(1, count - 1), span.width),
+        third: filled_row(rows, usize::min(2, count - 1), span.width),
     };
-    three_row_sums(m, lines, panel, tile.lines, sums);
+    let needed = Panel {
+        entries: panel.entries,
+        height: panel.height,
+        from: span.begin,
+    };
+    three_row_sums(m, lines, needed, tile.lines, sums);
 }
 
 /// For three rows of an operand, or as many as are left, and each line of the panel the sum of their products, modulo m.
@@ -113,7 +129,7 @@ pub(crate) fn tile_sums(
     ensures sums { AreTileSums m a.now tile panel.entry sums.new }
     ensures range { (p : ℕ) → p < 3 * tile.lines → slice_index sums.new p < m }
 {
-    if a.structure == Structure::General && !a.primed {
+    if is_plain(a) {
         plain_sums(m, a, tile, panel, sums);
     } else {
         filled_sums(m, a, tile, panel, rows, sums);
