@@ -1,0 +1,12 @@
+mod ReadOpers
+mod TaskBlocks
+mod TermEffects
+mod LeftEffects
+mod RightEffects
+mod StoredBlocks
+mod SolveEffects
+mod FactorEffects
+mod RowEntries
+mod NoBadPivots
+mod PivotReads
+mod ListInverses

@@ -1,0 +1,5 @@
+pub mod ReadGrids
+pub mod BlockOpers
+pub mod Ready
+pub mod Outcomes
+pub mod PivotLists
