@@ -1,0 +1,13 @@
+pub mod CoarserParts
+pub mod CutsAfter
+pub mod DimensionParts
+pub mod LoopsDone
+pub mod NumbersInOrder
+pub mod IssuedCounts
+pub mod IssuedSteps
+pub mod IssuedTasks
+pub mod TasksOfStatements
+pub mod StepsInOrder
+pub mod StepsListed
+pub mod SmallJobs
+pub mod WorkedLists

@@ -1,0 +1,4 @@
+pub mod CanonicalSteps
+pub mod Faults
+pub mod IssuedSteps
+pub mod WorkedSteps
