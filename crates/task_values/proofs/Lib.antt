@@ -1,0 +1,13 @@
+pub mod ReadGrids
+pub mod MarkLaws
+pub mod WrittenBlocks
+pub mod StepUses
+pub mod ReadRuns
+pub mod NextTasks
+pub mod FirstStores
+pub mod StoreSteps
+pub mod GoneSteps
+pub mod TakenBlocks
+pub mod Finals
+pub mod RunFronts
+pub mod Meanings

@@ -1,0 +1,3 @@
+pub mod Marks
+pub mod Outcomes
+pub mod Progress

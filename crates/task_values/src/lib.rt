@@ -1,0 +1,15 @@
+//! Steps of a job done by the kernels, one after another: `replay`.
+//!
+//! The blocks of the job's matrices and its pivot lists stand in one store, by number (`store`). A step that conflicts with a
+//! step that failed or was skipped is skipped, which marks on the blocks tell (`marks`). Any other one is done by its kernel on
+//! the block that it writes, and leaves it or meets a bad pivot (`run`). What the last step leaves is gathered (`replaying`).
+#![tactic(auto)]
+
+mod marks;
+mod outcome;
+mod replaying;
+mod run;
+mod store;
+
+pub use outcome::Outcome;
+pub use replaying::replay;
