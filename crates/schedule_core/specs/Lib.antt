@@ -1,0 +1,2 @@
+pub mod EventBlocks
+pub mod Schedules
