@@ -33,9 +33,11 @@ short_is_due due of_job input status text (inr fault) = refusal_is_due status fa
 families_are_due : (job : Job) (status : ℕ) (text : List ℕ) → DueFamilies job status text → IsDueStatus status
 families_are_due job status text families = zero_is_due status families.0
 
-run_is_due : (job : Job) (status : ℕ) (text : List ℕ) → DueRun job status text → IsDueStatus status
-run_is_due job status text (inl result) = zero_is_due status result.2.0
-run_is_due job status text (inr bad) = bad_pivot_is_due status bad.3.0
+run_is_due : (b : ℕ) (job : Job) (status : ℕ) (text : List ℕ) → DueRun b job status text → IsDueStatus status
+run_is_due b job status text (inl long) = refusal_is_due status long.3.0
+run_is_due b job status text (inr (inl many)) = refusal_is_due status many.2.0
+run_is_due b job status text (inr (inr (few, steps, inl result))) = zero_is_due status result.2.0
+run_is_due b job status text (inr (inr (few, steps, inr bad))) = bad_pivot_is_due status bad.3.0
 
 verify_is_due : (input : List ℕ) (status : ℕ) (text : List ℕ) → DueVerify input status text → IsDueStatus status
 verify_is_due input status text (inl (job, rest, spells, inl (after, spelled, inl all))) = zero_is_due status all.1
@@ -46,7 +48,7 @@ verify_is_due input status text (inr fault) = refusal_is_due status fault.3
 input_is_due : (command : Command) (input : List ℕ) (status : ℕ) (text : List ℕ) → DueInput command input status text → IsDueStatus status
 input_is_due Derive input status text due = short_is_due DueFamilies families_are_due input status text due
 input_is_due Verify input status text due = verify_is_due input status text due
-input_is_due (Run words) input status text due = short_is_due DueRun run_is_due input status text due
+input_is_due (Run words) input status text due = short_is_due (DueRun words.block) (run_is_due words.block) input status text due
 
 pub command_is_due : (command : Command) (input : List ℕ) (status : ℕ) (text : List ℕ) → DueCommand command input status text → IsDueStatus status
 command_is_due command input status text (inl long) = refusal_is_due status long.1.0

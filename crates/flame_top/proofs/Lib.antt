@@ -2,10 +2,13 @@ mod CommandWords
 mod Delivered
 mod DueLaws
 mod DueStatuses
+mod FirstLong
 mod FiveItems
 mod JoinedTexts
 mod NamedCommands
 mod QuietStreams
+mod RunLaws
+mod SameDue
 mod SomethingDue
 mod VerifiedStatements
 mod VerifyLaws

@@ -2,7 +2,7 @@
 use Rattle.std.proofs.Common.{◌≡◌, ◌≢◌, ◌++◌, ℕ, List, Option, Some, None, ap}
 use Rattle.std.specs.Io.KnownBytes.{Appends}
 use Rattle.outside_io.specs.Causes.{Rose, Tells}
-use Rattle.flame_top.specs.Answers.{Answers, DueRelation, IsDueStatus, StreamState}
+use Rattle.flame_top.specs.Answers.{Answers, DueRelation, StreamState}
 
 -- known bytes that grew are the old ones with the text behind them
 known_behind : (before after : Option (List ℕ)) (held text : List ℕ) → before ≡ Some held → Appends before after text → after ≡ Some (held ++ text)

@@ -1,14 +1,10 @@
 -- For all words and each input some status and some text are due.
-use Rattle.std.proofs.Common.{◌≡◌, ◌≢◌, inl, inr, ◌⊎◌, ℕ, ◌<◌, ◌≤◌, List, length, Some, Result, Ok, Err, refl, ap, ◌∙◌}
+use Rattle.std.proofs.Common.{◌≡◌, inl, inr, ◌⊎◌, ℕ, ◌<◌, ◌≤◌, List, length, Some, Result, Ok, Err, refl, ap, ◌∙◌}
 use Rattle.std.specs.Prelude.{codes}
 use Rattle.std.proofs.lemmas.Bool.{cases_lt}
-use Rattle.residue_sums.specs.Grids.{Grid}
 use Rattle.text_scan.specs.declared.Rest.{Rest}
 use Rattle.equation.specs.declared.job.Job.{Job}
-use Rattle.equation.specs.declared.job.Place.{Place}
 use Rattle.equation.specs.Jobs.{IsJob}
-use Rattle.equation.specs.Meanings.{Means, MeansBadPivot}
-use Rattle.equation.proofs.JobMeanings.{some_meaning}
 use Rattle.job_text.specs.declared.fault.JobFault.{JobFault}
 use Rattle.job_text.specs.declared.fault.JobFault.TheVariants.{Memory}
 use Rattle.job_text.specs.declared.stop.Stop.TheVariants.{Nothing}
@@ -16,16 +12,16 @@ use Rattle.job_text.specs.Sections.{text_fault}
 use Rattle.job_text.specs.SpelledJobs.{Spells, job_in}
 use Rattle.job_text.proofs.JobKinds.{want_of_memory_none}
 use Rattle.job_text.proofs.JobTaken.{read_job_spelled}
-use Rattle.variant_report.specs.ResultTexts.{result_text}
 use Rattle.flame_top.specs.declared.command.Command.{Command}
 use Rattle.flame_top.specs.declared.command.Command.TheVariants.{Derive, Run, Verify}
-use Rattle.flame_top.specs.Refusals.{bad_pivot_text, refusal_text}
+use Rattle.flame_top.specs.Refusals.{refusal_text}
 use Rattle.flame_top.specs.Words.{AreBad, AreWordsOf}
 use Rattle.flame_top.specs.Derive.{DueFamilies, families_text}
 use Rattle.flame_top.specs.Due.{DueInput, DueCommand, Due, input_limit}
 use Rattle.flame_top.specs.DueTexts.{DueShort}
 use Rattle.flame_top.specs.Run.{DueRun}
 use Rattle.flame_top.proofs.NamedCommands.{bad_or_named}
+use Rattle.flame_top.proofs.RunLaws.{some_run}
 use Rattle.flame_top.proofs.VerifyLaws.{of_the_text, some_verify}
 
 -- a status and a text are due
@@ -33,13 +29,6 @@ abbrev IsSomeDue : (ℕ → List ℕ → Type 0) → Type 0
 IsSomeDue due = (status : ℕ) × (text : List ℕ) × due status text
 
 -- ---- for a job
-
-some_run : (job : Job) → IsJob job → IsSomeDue (DueRun job)
-some_run job valid = go (some_meaning job valid)
-  where
-    go : ((after : List Grid) × Means job after) ⊎ ((number : ℕ) × (place : Place) × MeansBadPivot job number place) → IsSomeDue (DueRun job)
-    go (inl means) = (0, result_text job means.0, inl (means.0, means.1, (refl, refl)))
-    go (inr bad) = (4, bad_pivot_text bad.0 bad.1, inr (bad.0, bad.1, bad.2, (refl, refl)))
 
 some_families : (job : Job) → IsSomeDue (DueFamilies job)
 some_families job = (0, families_text job.operations, (refl, refl))
@@ -61,7 +50,7 @@ some_short due some_job input = go (job_in Nothing input) refl
 some_input : (command : Command) (input : List ℕ) → IsSomeDue (DueInput command input)
 some_input Derive input = some_short DueFamilies (λ job valid. some_families job) input
 some_input Verify input = some_verify input
-some_input (Run numbers) input = some_short DueRun some_run input
+some_input (Run numbers) input = some_short (DueRun numbers.block) (some_run numbers.block) input
 
 some_command : (command : Command) (input : List ℕ) → IsSomeDue (DueCommand command input)
 some_command command input = go (cases_lt input_limit (length input))

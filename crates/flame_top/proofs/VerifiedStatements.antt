@@ -1,10 +1,10 @@
 -- Statements that are held against the matrices behind a job, one after another.
-use Rattle.std.proofs.Common.{◌≡◌, inl, inr, ◌⊎◌, ℕ, zero, suc, ◌+◌, ◌<◌, ◌≤◌, ◌^◌, List, [], ◌∷◌, ◌++◌, length, get_or, set, take, All, slice_get, Some, refl, sym, ap, subst, ◌∙◌, add-one, arith, length-take}
+use Rattle.std.proofs.Common.{◌≡◌, inl, inr, ◌⊎◌, ℕ, zero, suc, ◌+◌, ◌<◌, ◌≤◌, List, [], ◌∷◌, ◌++◌, length, get_or, set, take, All, slice_get, Some, refl, sym, ap, subst, ◌∙◌, add-one, arith, length-take}
 use Rattle.std.proofs.lemmas.Bool.{cases_lt}
 use Rattle.std.proofs.lemmas.List.{get_or_default, get_or_past, take_more}
-use Rattle.std.proofs.lemmas.List.Elements.{All-get_or, All-set}
+use Rattle.std.proofs.lemmas.List.Elements.{All-set}
 use Rattle.std.proofs.lemmas.Option.{get_or_from_slice_get, slice_get_read, slice_get_within}
-use Rattle.residue_sums.specs.Grids.{Grid, IsFull, AreResidues}
+use Rattle.residue_sums.specs.Grids.{Grid, AreResidues}
 use Rattle.text_scan.specs.declared.Rest.{Rest}
 use Rattle.operation_spec.specs.declared.operation.Operation.{Operation}
 use Rattle.operation_spec.specs.ValidOperations.{IsValid}
@@ -18,9 +18,8 @@ use Rattle.equation.proofs.MatrixSizes.{HaveSizes, HaveSizes-set}
 use Rattle.equation.proofs.ResidualDecisions.{residual_or_right}
 use Rattle.equation.proofs.StatementReads.{fits_sizes, operation_found, read_own, within_own}
 use Rattle.job_text.specs.declared.stop.Stop.TheVariants.{After}
-use Rattle.job_text.specs.AfterBlocks.{AreAfter, HasShortSizes, HaveShortSizes, IsAfter, work_grid}
+use Rattle.job_text.specs.AfterBlocks.{AreAfter, HasShortSizes, HaveShortSizes, IsAfter}
 use Rattle.job_text.specs.SpelledJobs.{Spells}
-use Rattle.matrix_text.specs.MatrixLines.{size_limit}
 use Rattle.flame_top.specs.Verify.{before_statement, Differs, IsStatementAt, Verifies, with_after}
 
 -- the work matrices of a job that is spelled have short sizes

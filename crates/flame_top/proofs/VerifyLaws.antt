@@ -1,7 +1,7 @@
 -- For the same input one answer of `verify` is due, and there is one.
-use Rattle.std.proofs.Common.{◌≡◌, ◌≢◌, inl, inr, ◌⊎◌, ℕ, zero, suc, ◌+◌, ◌<◌, ◌≤◌, ◌^◌, List, [], ◌∷◌, length, All, slice_get, Option, Some, None, Result, Ok, Err, refl, sym, ap, subst, ◌∙◌, arith}
-use Rattle.std.proofs.lemmas.Bool.{cases_lt, cases_order}
-use Rattle.std.proofs.lemmas.Option.{same_Some, slice_get_within}
+use Rattle.std.proofs.Common.{◌≡◌, ◌≢◌, inl, inr, ℕ, ◌+◌, ◌<◌, List, length, slice_get, Some, Result, Ok, Err, refl, sym, ap, subst, ◌∙◌, arith}
+use Rattle.std.proofs.lemmas.Bool.{cases_order}
+use Rattle.std.proofs.lemmas.Option.{same_Some}
 use Rattle.byte_texts.proofs.Binding.{same_ok}
 use Rattle.residue_sums.specs.Grids.{Grid}
 use Rattle.text_scan.specs.declared.Rest.{Rest}
@@ -9,14 +9,13 @@ use Rattle.operation_spec.specs.declared.operation.Operation.{Operation}
 use Rattle.equation.specs.declared.job.Job.{Job}
 use Rattle.equation.specs.declared.job.Place.{Place}
 use Rattle.equation.specs.declared.job.Statement.{Statement}
-use Rattle.equation.specs.Equations.{Satisfies}
 use Rattle.equation.specs.Jobs.{known_grids, nth_grid}
 use Rattle.equation.specs.Residuals.{IsFirstResidual}
 use Rattle.equation.proofs.ResidualDecisions.{none_satisfies, one_residual}
 use Rattle.job_text.specs.declared.fault.JobFault.{JobFault}
 use Rattle.job_text.specs.declared.fault.JobFault.TheVariants.{Memory}
 use Rattle.job_text.specs.declared.stop.Stop.TheVariants.{After}
-use Rattle.job_text.specs.AfterBlocks.{HaveShortSizes, SpellsAfter}
+use Rattle.job_text.specs.AfterBlocks.{SpellsAfter}
 use Rattle.job_text.specs.AfterFaults.{after_in}
 use Rattle.job_text.specs.Sections.{text_fault}
 use Rattle.job_text.specs.SpelledJobs.{Spells, job_in}
@@ -29,10 +28,8 @@ use Rattle.job_text.proofs.JobTaken.{read_job_spelled}
 use Rattle.job_text.proofs.OneJob.{no_fault, one_job}
 use Rattle.flame_top.specs.Refusals.{refusal_text}
 use Rattle.flame_top.specs.Verify.{before_statement, Differs, differs_text, DueAnswer, DueBehind, DueVerify, IsStatementAt, Verifies, verified_text}
+use Rattle.flame_top.proofs.SameDue.{Same}
 use Rattle.flame_top.proofs.VerifiedStatements.{HaveShortSizes-spelled, all_verify_or_first, statement_within}
-
-abbrev Same : ℕ → ℕ → List ℕ → List ℕ → Type 0
-Same status other text different = (status ≡ other) × (text ≡ different)
 
 -- ---- for a job and the matrices behind it
 

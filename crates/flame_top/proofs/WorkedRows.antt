@@ -11,7 +11,7 @@ use Rattle.variant_report.specs.FamilyTexts.{variant_lines}
 use Rattle.job_text.specs.declared.fault.JobFault.TheVariants as faults
 use Rattle.flame_top.specs.declared.command.Command.TheVariants.{Run}
 use Rattle.flame_top.specs.Derive.{families_text}
-use Rattle.flame_top.specs.Refusals.{bad_pivot_text, refusal_text}
+use Rattle.flame_top.specs.Refusals.{bad_pivot_text, refusal_text, too_many_parts_text}
 use Rattle.flame_top.specs.Words.{words_of}
 
 spelled_words : words_of (Run (record { block = 1024; workers = 1 })) ≡ codes "run" ∷ codes "--block" ∷ codes "1024" ∷ codes "--workers" ∷ codes "1" ∷ []
@@ -25,6 +25,10 @@ refused_line = refl
 named_pivot : bad_pivot_text 2 (record { row = 10; col = 0 }) ≡ codes "no inverse statement 2 row 10 column 0\n"
 unfolding digits
 named_pivot = refl
+
+named_dimension : too_many_parts_text 2 (codes "rows") ≡ codes "refused TooManyParts statement 2 dimension rows\n"
+unfolding digits
+named_dimension = refl
 
 -- `X = W` of general matrices, whose loops have one task for each block and nothing to do
 same : Operation

@@ -5,8 +5,9 @@
 --   3. the input is no text of a job, or of what the command reads behind it: 3, the first fault with its line;
 --   4. `derive`: 0, the family of each operation (Derive);
 --   5. `verify`: 0 or 8, whether the matrices behind the job satisfy its equations (Verify);
---   6. `run`: 0, the matrices that the job means, or 4, its first bad pivot (Run).
-use Rattle.std.specs.Prelude.{◌≡◌, ℕ, ◌≤◌, ◌<◌, ◌⊎◌, List, length, codes}
+--   6. `run`: 3, the first dimension that the block size cuts into more than 32 parts (`refused TooManyParts`), or else more than
+--      262,144 steps (`refused TooManySteps`); else 0, the matrices that the job means, or 4, its first bad pivot (Run).
+use Rattle.std.specs.Prelude.{ℕ, ◌≤◌, ◌<◌, ◌⊎◌, List, length, codes}
 use Rattle.flame_top.specs.declared.command.Command.{Command}
 use Rattle.flame_top.specs.declared.command.Command.TheVariants.{Derive, Run, Verify}
 use Rattle.flame_top.specs.Derive.{DueFamilies}
@@ -19,7 +20,7 @@ use Rattle.flame_top.specs.Words.{AreWordsOf, AreBad}
 abbrev pub DueInput : Command → List ℕ → ℕ → List ℕ → Type 0
 DueInput Derive input status text = DueShort DueFamilies input status text
 DueInput Verify input status text = DueVerify input status text
-DueInput (Run words) input status text = DueShort DueRun input status text
+DueInput (Run words) input status text = DueShort (DueRun words.block) input status text
 
 -- how many bytes an input may have
 abbrev pub input_limit : ℕ

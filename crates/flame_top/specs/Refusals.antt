@@ -1,4 +1,4 @@
--- What is printed of a refused input, and of a job that meets a bad pivot.
+-- What is printed of a refused input or job, and of a job that meets a bad pivot.
 use Rattle.std.specs.Prelude.{ℕ, List, [], ◌++◌, codes, decimal}
 use Rattle.job_text.specs.declared.fault.JobFault.{JobFault}
 use Rattle.job_text.specs.declared.fault.JobFault.TheVariants.{Memory, BadByte, Header, TrailingText, Syntax, Modulus, Limit, NameTwice, NameUnknown, TooManyTerms, Shape, Form, TooLarge, RowLength, EntryRange, Binding, Alias}
@@ -27,6 +27,14 @@ refusal_text (RowLength line) = kind_at (codes "RowLength") line
 refusal_text (EntryRange line) = kind_at (codes "EntryRange") line
 refusal_text (Binding line) = kind_at (codes "Binding") line
 refusal_text (Alias line) = kind_at (codes "Alias") line
+
+-- a dimension of a job that is cut into too many parts, by the statement, numbered from 1, and the dimension's name
+abbrev pub too_many_parts_text : ℕ → List ℕ → List ℕ
+too_many_parts_text number name = codes "refused TooManyParts statement " ++ decimal number ++ codes " dimension " ++ name ++ codes "\n"
+
+-- a job that has too many steps
+abbrev pub too_many_steps_text : List ℕ
+too_many_steps_text = codes "refused TooManySteps\n"
 
 -- the first bad pivot of a job: the statement, numbered from 1, with the row and the column, numbered from 0
 abbrev pub bad_pivot_text : ℕ → Place → List ℕ

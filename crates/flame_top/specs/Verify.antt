@@ -1,5 +1,5 @@
 -- What is due for `verify`: whether the matrices behind a job are the statements' work matrices after them.
-use Rattle.std.specs.Prelude.{◌≡◌, ℕ, ◌+◌, ◌<◌, ◌⊎◌, List, [], ◌∷◌, ◌++◌, length, take, codes, decimal, slice_get, slice_index_or, slice_set, Some, Err}
+use Rattle.std.specs.Prelude.{◌≡◌, ℕ, ◌+◌, ◌<◌, ◌⊎◌, List, ◌∷◌, ◌++◌, length, take, codes, decimal, slice_get, slice_set, Some, Err}
 use Rattle.residue_sums.specs.Grids.{Grid}
 use Rattle.text_scan.specs.declared.Rest.{Rest}
 use Rattle.operation_spec.specs.declared.operation.Operation.{Operation}
@@ -7,7 +7,7 @@ use Rattle.equation.specs.declared.job.Job.{Job}
 use Rattle.equation.specs.declared.job.Place.{Place}
 use Rattle.equation.specs.declared.job.Statement.{Statement}
 use Rattle.equation.specs.Equations.{Satisfies}
-use Rattle.equation.specs.Jobs.{known_grids, no_grid, nth_grid}
+use Rattle.equation.specs.Jobs.{known_grids, nth_grid}
 use Rattle.equation.specs.Residuals.{IsFirstResidual}
 use Rattle.job_text.specs.declared.fault.JobFault.{JobFault}
 use Rattle.job_text.specs.declared.stop.Stop.TheVariants.{After}

@@ -5,6 +5,7 @@ ghost use Rattle.std.specs.Io.KnownBytes.{Consumes, IsAtEnd};
 ghost use Rattle.outside_io.specs.Causes.{Rose};
 ghost use Rattle.flame_top.specs.Due.{DueCommand, DueInput};
 ghost use Rattle.flame_top.specs.Answers.{Answers, IsDueStatus, Delivers, DueFrom, state_of};
+ghost use Rattle.flame_top.specs.Words.{IsInRange};
 ghost use Rattle.flame_top.specs.declared.answering.Halt.TheVariants.{Memory};
 
 use crate::command::Command;
@@ -46,13 +47,14 @@ fn too_long(alloc: Global) -> Result<Output, AllocError>
 }
 
 fn short_output(alloc: Global, command: Command, bytes: &[u8]) -> Result<Output, AllocError>
-    requires { length bytes.now ≤ 67108864 }
+    requires range { IsInRange command }
+    requires short { length bytes.now ≤ 67108864 }
     ensures { IfOk result (λ output. DueInput command bytes.now output.status output.text.items) }
 {
     match command {
         Command::Derive => Ok(derive_output(alloc, bytes)?),
         Command::Verify => Ok(verify_output(alloc, bytes)?),
-        Command::Run { words: _ } => Ok(run_output(alloc, bytes)?),
+        Command::Run { words } => Ok(run_output(alloc, bytes, words.block)?),
     }
 }
 
@@ -62,6 +64,7 @@ pub fn command_output<S: Source>(
     command: Command,
     source: &mut S,
 ) -> Result<Output, Halt>
+    requires { IsInRange command }
     ensures due { IfOk result (λ output. DueFrom (DueCommand command) (S.left source.old) output.status output.text.items) }
     ensures read_fault { IsErrOf result Halt.ReadFault → Rose (S.faults source.old) (S.faults source.new) }
     ensures quiet { result ≢ Err Halt.ReadFault → S.faults source.new ≡ S.faults source.old }
@@ -94,6 +97,7 @@ pub fn answer_command<S: Source, K: Sink>(
     source: &mut S,
     sink: &mut K,
 ) -> u8
+    requires { IsInRange command }
     ensures answers { Answers (DueCommand command)
         (state_of S.left S.faults source.old) (state_of S.left S.faults source.new)
         (state_of K.held K.faults sink.old) (state_of K.held K.faults sink.new) result }

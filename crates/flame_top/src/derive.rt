@@ -63,7 +63,8 @@ pub fn derive_output(alloc: Global, bytes: &[u8]) -> Result<Output, AllocError>
 }
 
 /// Prints the family of loop invariants of each operation of the job: reads the source to its end, derives, and writes
-/// one line for each variant. It answers the status, whose causes are those of `run_one_cmd`, but that 4 never comes.
+/// one line for each variant. It answers the status, whose causes are those of `run_one_cmd`, but that no block size refuses a
+/// job and 4 never comes.
 pub fn derive_cmd<S: Source, K: Sink>(
     alloc: Global,
     command: &Command,

@@ -1,11 +1,14 @@
 //! What the relation of what is due means. Each law is the contract of a function that does nothing.
-//! Together they say that for all words and each input exactly one status and one text are due, and what a call's promise
-//! comes to where nothing fails.
+//! Together they say that for all words and each input exactly one status and one text are due, that a run's result doesn't depend
+//! on the block size, and what a call's promise comes to where nothing fails.
 
 ghost use Rattle.std.specs.Prelude.{◌≡◌, ◌≢◌, ◌++◌, ℕ, List, Some};
 ghost use Rattle.outside_io.specs.Causes.{Rose};
+ghost use Rattle.equation.specs.declared.job.Job.{Job};
+ghost use Rattle.equation.specs.Jobs.{IsJob};
 ghost use Rattle.flame_top.specs.Answers.{Answers, StreamState};
 ghost use Rattle.flame_top.specs.Due.{Due};
+ghost use Rattle.flame_top.specs.Run.{DueRun};
 
 /// For the same words and input at most one status and one text are due.
 pub fn due_is_determined()
@@ -16,6 +19,13 @@ pub fn due_is_determined()
 /// For all words and each input a status and a text are due.
 pub fn something_is_due()
     ensures { (words : List (List ℕ)) (input : List ℕ) → (status : ℕ) × (text : List ℕ) × Due words input status text }
+{}
+
+/// The block size changes no result: where a job is refused under neither of two block sizes, the same is due under both.
+pub fn block_sizes_change_no_result()
+    ensures { (job : Job) → IsJob job → (b c status other : ℕ) (text different : List ℕ)
+        → DueRun b job status text → DueRun c job other different → status ≢ 3 → other ≢ 3
+        → (status ≡ other) × (text ≡ different) }
 {}
 
 /// What the promise of `top` comes to where the source tells its bytes, the sink tells what it holds, and neither fails: the

@@ -4,7 +4,7 @@
 //! (`derive`, `run`, `verify`), and in `specs/`, under the same name, the relation of what is due for it. What all of them do
 //! stands in `answering`: the input is read whole, the output is composed, and only then is the first byte written. Each fault
 //! of the text is refused by name (`refusals`). `program` holds `top`, which joins them, and `laws` tells that exactly one
-//! status and one text are due.
+//! status and one text are due, and that the block size changes no result.
 #![tactic(auto)]
 
 mod answering;
@@ -19,7 +19,10 @@ mod verify;
 
 pub use command::{Command, RunWords, read_words};
 pub use derive::derive_cmd;
-pub use laws::{due_is_determined, quiet_streams_get_the_whole_text, something_is_due};
+pub use laws::{
+    block_sizes_change_no_result, due_is_determined, quiet_streams_get_the_whole_text,
+    something_is_due,
+};
 pub use program::top;
 pub use run::run_one_cmd;
 pub use verify::verify_cmd;

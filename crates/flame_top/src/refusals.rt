@@ -1,7 +1,7 @@
 //! The texts of refusals, and of a bad pivot.
 
 ghost use Rattle.std.specs.Prelude.{◌≡◌, ◌++◌, decimal, OnOk};
-ghost use Rattle.flame_top.specs.Refusals.{bad_pivot_text, kind_at, refusal_text};
+ghost use Rattle.flame_top.specs.Refusals.{bad_pivot_text, kind_at, refusal_text, too_many_parts_text};
 
 use byte_texts::put_decimal;
 use equation::Place;
@@ -51,6 +51,22 @@ fn put_numbered(words: &[u8], number: u32, out: &mut Vec<u8>) -> Result<(), Allo
 {
     out.extend_from_slice(words)?;
     put_decimal(u64::from(number), out)?;
+    Ok(())
+}
+
+/// Appends what is printed of a job that cuts this dimension of this statement, numbered from 1, into too many parts.
+pub fn put_too_many_parts(
+    statement: u32,
+    dimension: &[u8],
+    out: &mut Vec<u8>,
+) -> Result<(), AllocError>
+    ensures { OnOk result
+        (out.new.items ≡ out.old.items ++ too_many_parts_text statement dimension.now) }
+{
+    put_numbered(b"refused TooManyParts statement ", statement, out)?;
+    out.extend_from_slice(b" dimension ")?;
+    out.extend_from_slice(dimension)?;
+    out.push(b'\n')?;
     Ok(())
 }
 

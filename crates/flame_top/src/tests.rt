@@ -8,6 +8,13 @@ use std::test::Fail;
 
 const RUN: &[&str] = &["run", "--block", "1", "--workers", "1"];
 
+/// Runs under block sizes that cut, and that don't.
+const RUNS: [&[&str]; 3] = [
+    RUN,
+    &["run", "--block", "2", "--workers", "1"],
+    &["run", "--block", "1024", "--workers", "1"],
+];
+
 const HEAD: &str = "flame 1\nmodulus 7\n";
 
 const MUL: &str =
@@ -197,10 +204,50 @@ const JOBS: [(&[&str], &str); 10] = [
 #[test]
 fn jobs_are_run(rt: HostRuntime) -> Result<(), Fail> {
     let alloc = rt.alloc();
-    for (i, (parts, text)) in JOBS.iter().enumerate() {
-        let given = answered(alloc, RUN, joined(alloc, parts)?, &[], &[])?;
-        assert_eq!(rt; given.status, 0, "case {i}");
-        assert_eq!(rt; given.text.as_slice(), text.as_bytes(), "case {i}");
+    for words in &RUNS {
+        for (i, (parts, text)) in JOBS.iter().enumerate() {
+            let given = answered(alloc, words, joined(alloc, parts)?, &[], &[])?;
+            assert_eq!(rt; given.status, 0, "case {i}");
+            assert_eq!(rt; given.text.as_slice(), text.as_bytes(), "case {i}");
+        }
+    }
+    Ok(())
+}
+
+/// A job that factors a matrix of n rows and n columns, all of them 0.
+fn zero_job(alloc: Global, head: &str, n: u32) -> Result<Vec<u8>, AllocError> {
+    let mut all = joined(alloc, &[HEAD, LU, head])?;
+    for _ in 0..n {
+        for _ in 0..n {
+            all.extend_from_slice(b"0 ")?;
+        }
+        all.push(b'\n')?;
+    }
+    all.extend_from_slice(b"end\ndo lu A\n")?;
+    Ok(all)
+}
+
+#[test]
+fn fine_cuts_are_refused(rt: HostRuntime) -> Result<(), Fail> {
+    let alloc = rt.alloc();
+    let cases: [(u32, &str, u8, &str); 2] = [
+        (
+            33,
+            "matrix A 33 33\n",
+            3,
+            "refused TooManyParts statement 1 dimension n\n",
+        ),
+        (
+            32,
+            "matrix A 32 32\n",
+            4,
+            "no inverse statement 1 row 0 column 0\n",
+        ),
+    ];
+    for (n, head, status, text) in &cases {
+        let given = answered(alloc, RUN, zero_job(alloc, head, *n)?, &[], &[])?;
+        assert_eq!(rt; given.status, *status, "{n} parts");
+        assert_eq!(rt; given.text.as_slice(), text.as_bytes(), "{n} parts");
     }
     Ok(())
 }

@@ -1,4 +1,4 @@
-use Rattle.std.proofs.Common.{◌≡◌, ℕ, ◌+◌, get_or, refl, subst, sym, below_more}
+use Rattle.std.proofs.Common.{◌≡◌, ◌+◌, get_or, refl, subst, sym, below_more}
 use Rattle.residue_sums.specs.Grids.{Grid}
 use Rattle.flame_top.proofs.VerifiedStatements.{AreBefore, cols_here, differing, fits_here, in_after, next_here, residues_here, rows_here, satisfied, valid_operation}
 use Rattle.flame_top.proofs.verify.first_difference.Goals as goal

@@ -1,5 +1,0 @@
-mod BoundFactors
-mod BoundTerms
-mod DoneStatements
-mod FormOutcomes
-mod WholeEntries

@@ -1,2 +1,0 @@
-pub mod BoundOperations
-pub mod Outcomes
