@@ -39,7 +39,7 @@ class Built:
 FLAGS = tuple(field.name for field in fields(Built))
 
 # What the built program has today.
-BUILT = Built(derive_every_form=True, run_every_form=True, verify=True)
+BUILT = Built(derive_every_form=True, run_every_form=True, verify=True, block_sizes=True)
 
 # Everything that the reference can answer, whether the program has it or not.
 WHOLE = Built(**{flag: True for flag in FLAGS})

@@ -31,6 +31,7 @@ SYL = ("operation syl\ndims m n\nwork W general m n\nknown T lower m m\nknown U 
        "equation T * X + X * U = W\nend\n")
 PRODUCT = ("operation prod\ndims n\nwork W general n n\nknown L unitlower n n\nknown U upper n n\n"
            "equation X = W + L * U\nend\n")
+SQR = "operation sqr\ndims n k\nwork W lower n n\nknown A general n k\nequation X = W + A * A'\nend\n"
 SOLVE = "operation s\ndims n m\nwork W general n m\nknown T Q n n\nequation T * X = W\nend\n"
 COUNTS = ((LU, 5), (LDL, 3), (LOW, 22), (INV, 4), (SYL, 24), (MUL, 54))
 
@@ -124,16 +125,39 @@ def check_rules():
                 assert found == filtered(len(two), *conditions)
 
 
+# How many steps a statement on p by q by r parts has, where they are known in numbers; the operations of one dimension and
+# those of triangular factors are square.
+STEPS = {
+    MUL: lambda p, q, r: p * q * r,
+    PRODUCT: lambda p, _q, _r: p * (p + 1) * (2 * p + 1) // 6,
+    LU: lambda p, _q, _r: p * (p + 1) * (2 * p + 1) // 6,
+    LDL: lambda p, _q, _r: p * (p + 1) * (p + 2) // 6,
+    SQR: lambda p, q, _r: p * (p + 1) // 2 * q,
+    INV: lambda p, _q, _r: 1 + p * (p + 1) * (p + 2) // 6,
+    SYL: lambda p, q, _r: 1 + p * q + p * (p - 1) // 2 * q + q * (q - 1) // 2 * p,
+    SOLVE.replace("Q", "unitlower"): lambda p, q, _r: p * q + p * (p - 1) // 2 * q,
+    SOLVE.replace("Q", "upper"): lambda p, q, _r: 1 + p * q + p * (p - 1) // 2 * q,
+    SOLVE.replace("Q", "diagonal"): lambda p, q, _r: 1 + p * q,
+}
+
+
+# Worked rows of the numbers above, for square matrices in so many parts.
+STEP_ROWS = ((2, (5, 5, 6, 7)), (8, (204, 204, 288, 289)))
+
+
 def check_steps():
-    """Known numbers of steps: of a product of triangular matrices, `lu`, and a lower and an upper solve, on square
-    matrices in so many parts."""
+    """Known numbers of steps, for lengths that are cut evenly and others, and of 0."""
     blocks = (PRODUCT, LU, SOLVE.replace("Q", "unitlower"), SOLVE.replace("Q", "upper"))
-    for parts, known in ((2, (5, 5, 6, 7)), (8, (204, 204, 288, 289))):
-        for block, count in zip(blocks, known):
-            made = read_job(scan(b"flame 1\nmodulus 7\n" + block.encode())).operations[0]
-            job = Job(7, matrices=[Matrix.zero(2 * parts - 1, 2 * parts - 1)])
-            statement = Statement(made, 0, [0] * len(made.knowns))
-            assert step_count(job, statement, 2) == count, (block, parts)
+    assert all(tuple(STEPS[block](p, p, p) for block in blocks) == known for p, known in STEP_ROWS)
+    for block, known in STEPS.items():
+        made = read_job(scan(b"flame 1\nmodulus 7\n" + block.encode())).operations[0]
+        for parts in cartesian((0, 1, 2, 3, 8), repeat=len(made.dims)):
+            shapes = [tuple(max(2 * parts[dim] - short, 0) for dim in (operand.rows, operand.cols))
+                      for operand in made.operands() for short in (sum(parts) % 2,)]
+            job = Job(7, matrices=[Matrix.zero(*shape) for shape in shapes])
+            statement = Statement(made, 0, list(range(1, len(shapes))))
+            p, q, r = (*parts, 0, 0)[:3]
+            assert step_count(job, statement, 2) == known(p, q, r), (block, parts)
 
 
 def check_operations():

@@ -8,7 +8,7 @@ from generators.faulty import PLANTERS, faulty
 from generators.jobs import chained_job, job_rows, random_job
 from generators.operations import FORMS, operation, operation_rows
 from generators.spelling import Row, fresh_name, spelled
-from generators.words import any_words, run_words
+from generators.words import any_words, block_words, run_words
 
 SCALES = ("small",) * 8 + ("middle",) * 10 + ("large",) * 2 + ("great",)
 KINDS = tuple(PLANTERS)
@@ -22,7 +22,7 @@ def run_case(rng, built, _ordinal):
         maker = chained_job(rng, scale)
     else:
         maker = random_job(rng, scale, built.run_every_form, statements)
-    return run_words(rng), spelled(rng, job_rows(maker.job))
+    return block_words(rng, maker.job), spelled(rng, job_rows(maker.job))
 
 
 def derive_case(rng, built, _ordinal):

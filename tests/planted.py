@@ -2,8 +2,8 @@
 
 A program may always answer that memory ran out, so a body that gives up on some inputs breaks no contract. Each entry
 of BODIES says on which inputs such a body gives up (or errs otherwise); this script counts the generated cases of
-`tests/run.sh` among them, and of the fixed ones those of families and sizes, names the first ones, and ends with 1
-where a body has none.
+`tests/run.sh` among them, and of the fixed ones those of families, sizes, blocks, chains and pivots, names the first
+ones, and ends with 1 where a body has none.
 
     python3 tests/planted.py [--count N] [--whole]
 """
@@ -22,13 +22,17 @@ sys.path.insert(0, str(HERE))
 from built import BUILT, WHOLE  # noqa: E402
 from case import Case  # noqa: E402
 from generate import generated_case  # noqa: E402
+from generators.blocks import block_cases  # noqa: E402
+from generators.chains import chain_cases  # noqa: E402
 from generators.families import family_cases  # noqa: E402
 from generators.operations import FORMS  # noqa: E402
+from generators.pivots import pivot_cases  # noqa: E402
 from generators.sizes import size_cases  # noqa: E402
 from reference.due import due  # noqa: E402
 from reference.faults import Fault  # noqa: E402
 from reference.job_text import read_job  # noqa: E402
 from reference.scanner import before, scan  # noqa: E402
+from reference.steps import part_counts, steps_of  # noqa: E402
 
 
 @dataclass
@@ -63,6 +67,20 @@ class Seen:
         """The kind and the line of a refused text, or None."""
         parts = self.output.decode("ascii").split()
         return (parts[1], int(parts[3])) if self.status == 3 and parts[2:3] == ["line"] else None
+
+
+    def block(self):
+        """The block size of a run that is done."""
+        return int(self.words[2])
+
+    def parts(self, forms=FORMS):
+        """For each statement of these forms in a run that is done, the parts of its operation's dimensions."""
+        return [part_counts(self.job, statement, self.block()) for statement in self.statements()
+                if statement.operation.form in forms]
+
+    def bad_place(self):
+        """The statement, row and column of a bad pivot, or None."""
+        return tuple(map(int, self.output.split()[3::2])) if self.status == 4 else None
 
 
 def has_factor(structure):
@@ -176,11 +194,86 @@ FORM_BODIES |= {f"verify from {least} {'columns' if at else 'rows'} on": verifie
                 for least in (65, 129, 1024) for at in (0, 1)}
 
 
+def is_short(seen, statement):
+    """Whether the last part of some dimension is shorter than others."""
+    lengths = [length for number in (statement.work, *statement.knowns)
+               for length in (seen.job.matrices[number].rows, seen.job.matrices[number].cols)]
+    return any(length > seen.block() and length % seen.block() for length in lengths)
+
+
+def is_cut(*forms):
+    """A body that gives up where a statement of one of these forms has several parts along two dimensions or, with one
+    dimension, along it."""
+    return lambda seen: any(sum(count > 1 for count in counts) >= min(2, len(counts)) for counts in seen.parts(forms))
+
+
+def is_cut_coarsely(form, least):
+    """A statement of this form in several parts, of which the first has more rows than this."""
+    cut = is_cut(form)
+    return lambda s: s.does("run") and s.block() > least and cut(s)
+
+
+def has_short_part(form):
+    """A body that gives up where a statement of this form has a short last part."""
+    return lambda seen: any(s.operation.form == form and is_short(seen, s) for s in seen.statements())
+
+
+def misplaces(form):
+    """A body that names the place of a bad pivot in its block, or gives up where it isn't in the first one."""
+    return lambda seen: seen.bad_place() is not None and max(seen.bad_place()[1:]) >= seen.block() and (
+        seen.job.statements[seen.bad_place()[0] - 1].operation.form == form)
+
+
+def has_steps(least):
+    """A body that gives up where a run that is done has at least so many steps."""
+    return lambda seen: bool(seen.statements()) and steps_of(seen.job, seen.block()) >= least
+
+
+def feeds(seen):
+    """Whether a statement of a run that is done reads what one before it left, in several blocks."""
+    statements = seen.statements() if seen.status == 0 else []
+    return any(first.work in second.knowns and max(part_counts(seen.job, second, seen.block())) > 1
+               for at, first in enumerate(statements) for second in statements[at + 1:])
+
+
+def overwrites(seen):
+    """Whether a statement of a run that is done writes what one before it read, in several blocks."""
+    statements = seen.statements() if seen.status == 0 else []
+    return any(second.work in first.knowns and max(part_counts(seen.job, second, seen.block())) > 1
+               for at, first in enumerate(statements) for second in statements[at + 1:])
+
+
+def refused(*words):
+    """A body that doesn't refuse an input, or gives up on it, of which this is refused."""
+    return lambda seen: seen.status == 3 and seen.output.decode().split()[1:1 + len(words)] == list(words)
+
+
+BLOCK_BODIES = {
+    "blocks of one entry": lambda s: s.does("run") and s.block() == 1 and s.parts() and max(map(max, s.parts())) > 1,
+    "32 parts": lambda s: any(max(counts) == 32 for counts in s.parts()),
+    "an empty matrix beside others in several parts": lambda s: any(0 in c and max(c) > 1 for c in s.parts()),
+    "one block for a whole job": lambda s: s.parts() and max(map(max, s.parts())) == 1,
+    "statements that read what others left": feeds,
+    "statements that write what others read": overwrites,
+    "too many parts": refused("TooManyParts"),
+    "too many parts behind statement 1": lambda s: refused("TooManyParts")(s) and s.output.split()[3] != b"1",
+    "too many steps": refused("TooManySteps"),
+}
+BLOCK_BODIES |= {f"runs of {least} steps": has_steps(least) for least in (100, 1000, 10_000, 262_144)}
+BLOCK_BODIES |= {f"statements of the form {form} in several parts": is_cut(form) for form in FORMS}
+BLOCK_BODIES |= {f"blocks of more than {least} rows of the form {form} in several parts": is_cut_coarsely(form, least)
+                 for form in FORMS for least in (39, 64, 128)}
+BLOCK_BODIES |= {f"statements of the form {form} with a short last part": has_short_part(form) for form in FORMS}
+BLOCK_BODIES |= {f"a bad pivot of the form {form} behind the first block": misplaces(form)
+                 for form in FORMS if form != "assign"}
+
+
 def chosen_cases(built, count):
-    """The generated cases by their numbers, and the fixed ones of families and sizes, each with what is due if it is
-    known."""
+    """The generated cases by their numbers, and the fixed ones of families, sizes, blocks, chains and pivots, each with what
+    is due if it is known."""
     drawn = [(partial(generated_case, "1", index, built), None) for index in range(count)]
-    return drawn + [(partial(same, case), None) for case in family_cases()] + [
+    fixed = [*family_cases(), *block_cases(), *chain_cases(), *pivot_cases()]
+    return drawn + [(partial(same, case), None) for case in fixed] + [
         (partial(same, case), known) for case, known in size_cases()]
 
 
@@ -202,7 +295,7 @@ def seen(built, chosen):
     except Fault:
         pass
     one = Seen(case.words, case.data, status, output, job)
-    bodies = {**BODIES, **FORM_BODIES}
+    bodies = {**BODIES, **FORM_BODIES, **BLOCK_BODIES}
     return case.name, [name for name, gives_up in bodies.items() if gives_up(one)]
 
 
@@ -217,7 +310,8 @@ def main():
         cases = chosen_cases(built, arguments.count)
         found = list(pool.map(seen, [built] * len(cases), cases, chunksize=10))
     missed = 0
-    for body in list(BODIES) + (list(FORM_BODIES) if built.run_every_form and built.verify else []):
+    bodies = list(BODIES) + (list(FORM_BODIES) if built.run_every_form and built.verify else [])
+    for body in bodies + (list(BLOCK_BODIES) if built.block_sizes else []):
         cases = [name for name, refused in found if body in refused]
         missed += not cases
         print(f"{body}: {len(cases)} cases, {', '.join(cases[:3])}")

@@ -19,6 +19,8 @@ sys.path.insert(0, str(HERE))
 from built import BUILT, WHOLE  # noqa: E402
 from case import Case, encoded, load, save  # noqa: E402
 from generate import generated_case  # noqa: E402
+from generators.blocks import block_cases  # noqa: E402
+from generators.chains import chain_cases  # noqa: E402
 from generators.cuts import cut_cases  # noqa: E402
 from generators.documents import document_cases  # noqa: E402
 from generators.families import family_cases  # noqa: E402
@@ -27,6 +29,7 @@ from generators.limits import limit_cases  # noqa: E402
 from generators.pivots import pivot_cases  # noqa: E402
 from generators.sizes import size_cases  # noqa: E402
 from generators.streams import stream_cases  # noqa: E402
+from generators.words import words_under  # noqa: E402
 from reference.due import due  # noqa: E402
 
 LEAST = 500
@@ -91,6 +94,22 @@ def kept(program, folder):
     return compared(program, case, status, output)
 
 
+def kept_under(program, folder, block):
+    """Runs the job of a kept case under another block size, by which nothing changes."""
+    case, status, output = load(folder)
+    other = Case(f"{case.name}-block-{block}", words_under(block), case.data, case.streams)
+    return compared(program, other, status, output)
+
+
+def other_blocks(folder):
+    """The greater block sizes under which the job of a kept case is run, too."""
+    case, status, output = load(folder)
+    is_run = status in (0, 3, 4) and case.words[:1] == ["run"] and case.words == words_under(case.words[2])
+    if not is_run or output.startswith(b"refused TooMany"):
+        return []
+    return [block for block in (2, 3, 32, 1024) if block > int(case.words[2])]
+
+
 def generated(program, built, seed, index):
     """Runs a generated case, for which the reference says what is due."""
     try:
@@ -104,7 +123,8 @@ def generated(program, built, seed, index):
 def fixed_cases(built):
     """The cases that are the same in every run, each with the answer that is due, a function that makes it, or None
     where the reference says it; made once, before the processes of the pool begin. Great ones come first."""
-    cases = [*limit_cases(), *family_cases(), *grid_cases(built), *pivot_cases(), *cut_cases(built)]
+    cases = [*limit_cases(), *block_cases(), *family_cases(), *grid_cases(built), *pivot_cases(), *chain_cases(),
+             *cut_cases(built)]
     return list(size_cases()) + [(case, None) for case in cases] + list(stream_cases()) + list(document_cases())
 
 
@@ -115,6 +135,12 @@ def fixed(program, built, number):
         case = Case(case.name, case.words, case.data())
     known = known() if callable(known) else known
     return compared(program, case, *(known or due(case.words, case.data, built)))
+
+
+def behind_script(program):
+    """The program that the script ./flame runs, where that is what is tested and it is built; else the same."""
+    built = HERE.parent / "crates" / "flame" / "out" / "flame"
+    return str(built) if Path(program) == HERE.parent / "flame" and built.exists() else program
 
 
 def all_cases(arguments, built):
@@ -129,7 +155,8 @@ def all_cases(arguments, built):
         print(f"{len(folders) - len(ready)} kept cases wait for what isn't built yet")
     same = [(fixed, built, number) for number in range(len(fixed_cases(built)))]
     drawn = [(generated, built, arguments.seed, index) for index in range(arguments.count)]
-    return same + drawn + [(kept, folder) for folder in ready]
+    others = [(kept_under, folder, block) for folder in ready for block in other_blocks(folder)]
+    return same + drawn + [(kept, folder) for folder in ready] + others
 
 
 def main():
@@ -145,7 +172,9 @@ def main():
     program = os.environ.get("FLAME") or str(HERE.parent / "flame")
     cases = all_cases(arguments, built)
     with ProcessPoolExecutor(len(os.sched_getaffinity(0))) as pool:
-        waiting = [pool.submit(function, program, *rest) for function, *rest in cases]
+        # The script looks for edited files in each call, so kept cases alone go through it.
+        waiting = [pool.submit(function, program if function == kept else behind_script(program), *rest)
+                   for function, *rest in cases]
         failures = [line for line in (one.result() for one in waiting) if line]
     for line in failures:
         print(line)

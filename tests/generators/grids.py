@@ -15,9 +15,12 @@ from reference.structures import STRUCTURES, TRIANGULAR, UNIT, WORK_STRUCTURES
 from .after import blocks
 from .jobs import job_rows
 from .spelling import plain
+from .words import words_under
 
 MODULUS = 101
 ROWS, COLS = 5, 4
+# Of one entry, in several parts of which the last is short for rows or columns or both, and one for all.
+BLOCKS = (1, 2, 3, 4, 1024)
 # The matrices that all statements read: square ones of both sizes, and one that isn't square.
 KNOWN_SHAPES = ((ROWS, ROWS), (COLS, COLS), (ROWS, ROWS), (ROWS, COLS), (COLS, ROWS))
 PRIMES = (False, True)
@@ -146,7 +149,7 @@ def verified_cases(name, job):
 
 
 def grid_cases(built):
-    """Each job, once run and once derived, and where that is built verified."""
+    """Each job, run under several block sizes, once derived, and where that is built verified."""
     groups = (("products", products(), 16), ("two terms", two_terms(), 16), ("solves", solves(), 16),
               ("sylvester", sylvester(False), 16), ("sylvester without inverse", sylvester(True), 1),
               ("with terms", with_terms(), 16))
@@ -155,8 +158,8 @@ def grid_cases(built):
         for at in range(0, len(operations), size):
             job = grid_job(f"{name}:{at}", operations[at:at + size])
             data = plain(job_rows(job))
-            block = str(at % 7 + 1)
-            yield Case(f"grid: {name} from {at}, run", ["run", "--block", block, "--workers", "1"], data)
+            for block in BLOCKS:
+                yield Case(f"grid: {name} from {at}, run, block {block}", words_under(block), data)
             yield Case(f"grid: {name} from {at}, derive", ["derive"], data)
             if built.verify:
                 yield from verified_cases(f"grid: {name} from {at}", job)

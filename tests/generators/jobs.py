@@ -12,7 +12,9 @@ MATRIX_LIMIT = 32
 
 
 def length(rng, scale):
-    """The length of a dimension."""
+    """The length of a dimension; a scale may be a choice of lengths."""
+    if not isinstance(scale, str):
+        return rng.choice(scale)
     if scale == "small":
         return rng.choice((0, 1, 1, 2, 2, 3))
     if scale == "middle":

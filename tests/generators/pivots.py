@@ -10,8 +10,10 @@ from reference.model import Factor, Job, Operand, Operation, Statement, Term
 from .entries import non_unit, partner_matrix, random_matrix, triangular_matrix
 from .jobs import job_rows
 from .spelling import plain
+from .words import words_under
 
 ROWS, COLS = 5, 3
+BLOCKS = (1, 2, 3, 5)
 FORMS = (
     ("left", "lower", False), ("left", "upper", False), ("left", "lower", True), ("left", "diagonal", False),
     ("right", "lower", False), ("right", "upper", False), ("right", "upper", True), ("lu", None, False),
@@ -84,13 +86,39 @@ def pivot_job(seed, form, m, places, statement):
     return job
 
 
+def crossed_job(m, minus, pairs):
+    """A Sylvester equation with bad pivots at these places."""
+    rng = random.Random(f"crossed:{m}:{minus}:{pairs}")
+    made = operation("sylvester", "lower", minus)
+    t = triangular_matrix(rng, ROWS, m, False)
+    u = partner_matrix(rng, t, "lower", COLS, m, minus, False)
+    for i, j in pairs:
+        u.cells[j][j] = (non_unit(rng, m) - t.cells[i][i]) * (-1 if minus else 1) % m
+    return Job(m, [made], ["W", "T", "U"], [random_matrix(rng, ROWS, COLS, m), t, u], [Statement(made, 0, [1, 2])], [0])
+
+
+def crossed_cases():
+    """Bad pivots of which the first by rows isn't the first by columns, and under some block sizes not the first by
+    blocks."""
+    for m in (101, 4294967291, 4294967295):
+        for minus in (False, True):
+            for pairs in (((0, 2), (1, 0)), ((2, 1), (3, 0)), ((1, 2), (2, 1), (4, 0))):
+                data = plain(job_rows(crossed_job(m, minus, pairs)))
+                for block in BLOCKS:
+                    name = f"sylvester {'-' if minus else '+'} modulo {m} at {pairs}, block {block}"
+                    yield Case(f"pivot: {name}", words_under(block), data)
+
+
 def pivot_cases():
-    """One case for each form, place and modulus."""
+    """Cases for each form, place and modulus: under blocks of one entry, in which the place is one of several, of which the
+    last is short, and of which there is one."""
     for number, form in enumerate(FORMS):
         for m in (101, 6, 4294967295):
             for places in ((0, 4), (2, 3), (4,)):
                 statement = 1 + (number + places[0]) % 3
                 name = f"{form[0]} {form[1]} {form[2]} modulo {m} at {places[0]}"
                 job = pivot_job(name, form, m, places, statement)
-                block = str(1 + number % 4)
-                yield Case(f"pivot: {name}", ["run", "--block", block, "--workers", "1"], plain(job_rows(job)))
+                data = plain(job_rows(job))
+                for block in BLOCKS:
+                    yield Case(f"pivot: {name}, block {block}", words_under(block), data)
+    yield from crossed_cases()

@@ -17,6 +17,7 @@ from .after import blocks
 from .entries import partner_matrix, planted, random_matrix, triangular_matrix
 from .jobs import job_rows
 from .spelling import plain
+from .words import PARTS, words_under
 
 MODULUS = 4294967291
 GREATEST = 1024
@@ -24,13 +25,15 @@ GREATEST = 1024
 LESS = 300
 FACTORS = (128, 129)
 INNER = (204, 205, 1024)
+# Rows that go in two parts, each greater than a buffer holds.
+FAR = (258, 1024)
 # Columns on each side of 64 and 128, of a product that `verify` looks at.
 COLUMNS = (64, 65, 129)
 
 
-def words(n):
-    """The words of a run whose blocks are few enough for matrices of n rows."""
-    return ["run", "--block", str(n // 8 + 1), "--workers", "1"]
+def words(n, parts):
+    """The words of a run that cuts a length of n into so many parts, the last of which is short for most n."""
+    return words_under(-(-n // parts))
 
 
 def job_of(made, m, work, knowns):
@@ -95,6 +98,11 @@ def makers():
         yield f"sylvester of {n} columns", n, partial(sylvester, 2, n)
         for form in ("lu", "ldl"):
             yield f"{form} of {n} rows", n, partial(factor_job, form, n)
+    for structure, other in (("unitlower", "lower"), ("diagonal", "upper")):
+        yield f"left of {FAR[0]} rows, {structure}", FAR[0], partial(solve, "left", structure, FAR[0], 2)
+        yield f"right of {FAR[0]} columns, {other}", FAR[0], partial(solve, "right", other, 2, FAR[0])
+    yield f"sylvester of {FAR[0]} rows", FAR[0], partial(sylvester, FAR[0], 2)
+    yield f"sylvester of {FAR[0]} columns", FAR[0], partial(sylvester, 2, FAR[0])
     for inner in INNER:
         yield f"inner dimension of {inner}", inner, partial(product, 3, 5, inner)
     for rows, cols in [(2, cols) for cols in COLUMNS] + [(GREATEST, 2), (2, GREATEST)]:
@@ -203,12 +211,18 @@ def known(form, n, what):
 def size_cases():
     """Each job, run and verified, with what is due; None where the reference says it. Texts and what is known are
     functions that make them."""
-    for form, verified in (("lu", LESS), ("ldl", LESS), ("left", GREATEST), ("right", GREATEST)):
-        yield (Case(f"size: {form} of {GREATEST} rows, run", words(GREATEST), partial(known, form, GREATEST, "run")),
-               partial(known, form, GREATEST, "result"))
+    for form, verified, parts in (("lu", LESS, PARTS), ("ldl", LESS, 3), ("left", GREATEST, 1), ("right", GREATEST, 31)):
+        yield (Case(f"size: {form} of {GREATEST} rows in {parts} parts, run", words(GREATEST, parts),
+                    partial(known, form, GREATEST, "run")), partial(known, form, GREATEST, "result"))
         yield (Case(f"size: {form} of {verified} rows, verify", ["verify"], partial(known, form, verified, "verify")),
                (0, b"verified 1\n"))
+    for form in ("lu", "ldl", "left", "right"):
+        for rows in FAR:
+            yield (Case(f"size: {form} of {rows} rows in 2 parts, run", words(rows, 2), partial(known, form, rows, "run")),
+                   partial(known, form, rows, "result"))
     for name, size, maker in makers():
-        yield Case(f"size: {name}, run", words(size), partial(run_text, name, maker)), None
+        for parts in (1, 2, 8):
+            case = Case(f"size: {name} in {parts} parts, run", words(size, parts), partial(run_text, name, maker))
+            yield case, None
         yield Case(f"size: {name}, verify", ["verify"], partial(verify_text, name, maker, 0)), (0, b"verified 1\n")
         yield Case(f"size: {name}, verify last entry", ["verify"], partial(verify_text, name, maker, 1)), None

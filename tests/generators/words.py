@@ -7,9 +7,30 @@ BLOCKS = (1,) * 8 + (2,) * 3 + (3, 3, 4, 5, 7, 8, 9, 10, 16, 31, 32, 33, 64, 99,
                                 1024)
 
 
+# How many parts a dimension of a statement may have.
+PARTS = 32
+
+
 def run_words(rng):
     """The words of a run with one worker and any block size."""
-    block = rng.choice(BLOCKS) if rng.random() < 0.7 else rng.randrange(1, 1025)
+    return words_under(rng.choice(BLOCKS) if rng.random() < 0.7 else rng.randrange(1, 1025))
+
+
+def block_words(rng, job):
+    """The words of a run of this job: one block, several, a short last one, blocks of one entry, the smallest that there
+    may be, and at times the greatest that are too small."""
+    matrices = [job.matrices[number] for _, work, knowns in job.statements for number in (work, *knowns)]
+    longest = max((length for matrix in matrices for length in (matrix.rows, matrix.cols)), default=0)
+    least, too_small = max(1, -(-longest // PARTS)), (longest - 1) // PARTS
+    if too_small > 0 and rng.random() < 0.1:
+        return words_under(too_small)
+    block = rng.choice((least, least, longest - 1, longest, longest + 1, -(-longest // 2), -(-longest // 3),
+                        rng.randrange(least, longest + 2), rng.choice(BLOCKS)))
+    return words_under(min(max(block, least), 1024))
+
+
+def words_under(block):
+    """The words of a run under this block size."""
     return ["run", "--block", str(block), "--workers", "1"]
 
 

@@ -33,5 +33,15 @@ def refuse_too_many(job, block):
             if count > PART_LIMIT:
                 raise Refusal(
                     f"TooManyParts statement {number} dimension {statement.operation.dims[dim]}")
-    if sum(step_count(job, statement, block) for statement in job.statements) > STEP_LIMIT:
+    if steps_of(job, block) > STEP_LIMIT:
         raise Refusal("TooManySteps")
+
+
+def steps_of(job, block):
+    """The number of steps of all statements; those of one operation on as many parts are counted once."""
+    counted = {}
+    keys = [(statement.operation.name, *part_counts(job, statement, block)) for statement in job.statements]
+    for key, statement in zip(keys, job.statements):
+        if key not in counted:
+            counted[key] = step_count(job, statement, block)
+    return sum(counted[key] for key in keys)
