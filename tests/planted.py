@@ -262,7 +262,9 @@ BLOCK_BODIES = {
 BLOCK_BODIES |= {f"runs of {least} steps": has_steps(least) for least in (100, 1000, 10_000, 262_144)}
 BLOCK_BODIES |= {f"statements of the form {form} in several parts": is_cut(form) for form in FORMS}
 BLOCK_BODIES |= {f"blocks of more than {least} rows of the form {form} in several parts": is_cut_coarsely(form, least)
-                 for form in FORMS for least in (39, 64, 128)}
+                 for form in FORMS for least in (39, 64)}
+BLOCK_BODIES |= {f"blocks of more than 128 rows of the form {form} in several parts": is_cut_coarsely(form, 128)
+                 for form in ("lu", "ldl")}
 BLOCK_BODIES |= {f"statements of the form {form} with a short last part": has_short_part(form) for form in FORMS}
 BLOCK_BODIES |= {f"a bad pivot of the form {form} behind the first block": misplaces(form)
                  for form in FORMS if form != "assign"}

@@ -27,6 +27,8 @@ FACTORS = (128, 129)
 INNER = (204, 205, 1024)
 # Rows that go in two parts, each greater than a buffer holds.
 FAR = (258, 1024)
+# Rows and columns that both go in two parts of more than 64.
+WIDE = (130, 66)
 # Columns on each side of 64 and 128, of a product that `verify` looks at.
 COLUMNS = (64, 65, 129)
 
@@ -103,6 +105,11 @@ def makers():
         yield f"right of {FAR[0]} columns, {other}", FAR[0], partial(solve, "right", other, 2, FAR[0])
     yield f"sylvester of {FAR[0]} rows", FAR[0], partial(sylvester, FAR[0], 2)
     yield f"sylvester of {FAR[0]} columns", FAR[0], partial(sylvester, 2, FAR[0])
+    rows, cols = WIDE
+    yield f"left of {rows} by {cols}", rows, partial(solve, "left", "lower", rows, cols)
+    yield f"right of {cols} by {rows}", rows, partial(solve, "right", "upper", cols, rows)
+    yield f"sylvester of {rows} by {cols}", rows, partial(sylvester, rows, cols)
+    yield f"product of {rows} by {cols}", rows, partial(product, rows, cols, cols)
     for inner in INNER:
         yield f"inner dimension of {inner}", inner, partial(product, 3, 5, inner)
     for rows, cols in [(2, cols) for cols in COLUMNS] + [(GREATEST, 2), (2, GREATEST)]:
