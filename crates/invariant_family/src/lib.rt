@@ -10,4 +10,6 @@ mod variant;
 mod walk;
 
 pub use families::{family, variant_at};
+pub use rules::holds;
+pub use splits::{dir_of, is_split};
 pub use variant::Variant;

@@ -175,7 +175,7 @@ fn has_bit(number: u64, place: usize) -> bool
 }
 
 /// Whether a set holds a task.
-fn holds(set: &[Task], task: Task) -> bool
+pub fn holds(set: &[Task], task: Task) -> bool
     ensures { result ≡ holds set.now task }
 {
     set.iter().any(|held| same_task(task, *held))

@@ -39,7 +39,7 @@ impl Side {
 }
 
 /// Whether a dimension is one of the split.
-fn is_split(split: Split, dim: usize) -> bool
+pub fn is_split(split: Split, dim: usize) -> bool
     ensures { result ≡ is_split split dim }
 {
     match split.second {
@@ -49,7 +49,7 @@ fn is_split(split: Split, dim: usize) -> bool
 }
 
 /// The direction of a dimension of the split.
-fn dir_of(split: Split, dirs: Dirs, dim: usize) -> Dir
+pub fn dir_of(split: Split, dirs: Dirs, dim: usize) -> Dir
     ensures { result ≡ dir_of split dirs dim }
 {
     if split.first as usize == dim {
