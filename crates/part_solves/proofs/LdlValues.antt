@@ -1,8 +1,8 @@
 -- A block that was solved with L' and scaled by the inverses of D is solved with D * L'.
-use Rattle.std.proofs.Common.{◌≡◌, ◌≢◌, ℕ, ◌*◌, ◌%◌, ◌<◌, ◌≤◌, refl, sym, ap, ◌∙◌, arith}
+use Rattle.std.proofs.Common.{◌≡◌, ℕ, ◌*◌, ◌%◌, ◌<◌, ◌≤◌, refl, sym, ap, ◌∙◌, arith}
 use Rattle.std.proofs.Math.Nat.{mod-eq_of_lt, mod-lt}
 use Rattle.residue_sums.specs.Residues.{Cong}
-use Rattle.residue_sums.specs.Tables.{Table, product, times, transpose}
+use Rattle.residue_sums.specs.Tables.{Table, times, transpose}
 use Rattle.residue_sums.specs.Grids.{Grid, entry}
 use Rattle.residue_sums.proofs.Congruence.{Cong-sym, Cong-scale, Cong-add, Cong-by, Cong-from_mod, mod_from_Cong}
 use Rattle.residue_sums.proofs.Sums.{sum_below-only}
@@ -12,7 +12,7 @@ use Rattle.structure_rules.proofs.Views.{view-zero}
 use Rattle.matrix_algebra.proofs.Products.{product-same}
 use Rattle.matrix_parts.specs.declared.part_mut.PartMut.{PartMut}
 use Rattle.matrix_parts.specs.Lent.{grid_of}
-use Rattle.equation.specs.Kernels.{IsValue, IsSolvedRight, IsSolvedRightLdl}
+use Rattle.equation.specs.Kernels.{IsSolvedRight, IsSolvedRightLdl}
 use Rattle.operand_lines.proofs.PartValues.{IsValue-part}
 
 diagonal-here : (f : Table) (k : ℕ) → view Diagonal f k k ≡ f k k

@@ -111,6 +111,28 @@ equation_solved m n i from len sum v right t x row within apart zeros row_is sum
     let whole : sum_below (λ k. row k * x (from + k)) len ≡ sum_below (without i (λ k. t i k * x k)) n = span_sum n i from len t x row within apart zeros row_is in
     Cong-by (Cong-add (Cong-sym (Cong-from_mod sum_is)) solved) (omega arith)
 
+-- a sum whose terms outside a span are 0
+sum_of_span : (f : ℕ → ℕ) (n a la : ℕ) → a + la ≤ n → ((k : ℕ) → k < n → (k < a) ⊎ (a + la ≤ k) → f k ≡ 0) → sum_below f n ≡ sum_below (λ k. f (a + k)) la
+sum_of_span f n a la within zeros =
+    sum_below-shrink f n (a + la) within (λ k past below. zeros k below (inr past)) ∙ sum_below-split f a la
+    ∙ omega (arith, sum_below-zero f a (λ k before. zeros k (omega arith) (inl before)))
+
+-- and one whose terms outside two spans are
+two_in_order : (f : ℕ → ℕ) (n a la b lb : ℕ) → b + lb ≤ n → a + la ≤ b
+    → ((k : ℕ) → k < n → (k < a) ⊎ (a + la ≤ k) → (k < b) ⊎ (b + lb ≤ k) → f k ≡ 0)
+    → sum_below f n ≡ sum_below (λ k. f (a + k)) la + sum_below (λ k. f (b + k)) lb
+two_in_order f n a la b lb within order zeros =
+    sum_below-shrink f n (b + lb) within (λ k past below. zeros k below (inr (omega arith)) (inr past)) ∙ sum_below-split f b lb
+    ∙ omega (arith, sum_of_span f b a la order (λ k below place. zeros k (omega arith) place (inl below)))
+
+pub two_spans : (f : ℕ → ℕ) (n a la b lb : ℕ) → a + la ≤ n → b + lb ≤ n → (b + lb ≤ a) ⊎ (a + la ≤ b)
+    → ((k : ℕ) → k < n → (k < a) ⊎ (a + la ≤ k) → (k < b) ⊎ (b + lb ≤ k) → f k ≡ 0)
+    → sum_below f n ≡ sum_below (λ k. f (a + k)) la + sum_below (λ k. f (b + k)) lb
+two_spans f n a la b lb within within' (inr order) zeros = two_in_order f n a la b lb within' order zeros
+two_spans f n a la b lb within within' (inl order) zeros =
+    let turned : sum_below f n ≡ sum_below (λ k. f (b + k)) lb + sum_below (λ k. f (a + k)) la = two_in_order f n b lb a la within order (λ k below place place'. zeros k below place' place) in
+    omega arith
+
 -- whether an unknown is inside can be told
 pub IsInLine-or_not : (turned : Bool) (s : Structure) (g i : ℕ) → IsInLine turned s g i ⊎ ¬ (IsInLine turned s g i)
 IsInLine-or_not true s g i = elim (IsZero-or_inside s i g) [ inl out ↦ inr (λ inner. inner out) | inr inner ↦ inl inner ]

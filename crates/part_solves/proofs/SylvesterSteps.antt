@@ -1,5 +1,5 @@
 -- The equation T * X + X * U = R, or T * X - X * U = R, solved entry by entry, and its value.
-use Rattle.std.proofs.Common.{◌≡◌, ◌≢◌, Bool, true, false, not, ap₂, ℕ, ◌+◌, ◌-◌, ◌*◌, ◌%◌, ◌<◌, ◌≤◌, ◌⊎◌, inl, inr, refl, sym, ap, subst, ◌∙◌, arith}
+use Rattle.std.proofs.Common.{◌≡◌, Bool, true, false, not, ap₂, ℕ, ◌+◌, ◌-◌, ◌*◌, ◌%◌, ◌<◌, ◌≤◌, ◌⊎◌, inl, inr, sym, ap, subst, ◌∙◌, arith}
 use Rattle.std.proofs.Math.Nat.{mod-lt, mul-le-mul_right}
 use Rattle.std.proofs.lemmas.Bool.{cases_lt}
 use Rattle.residue_sums.specs.Residues.{Cong}
@@ -7,7 +7,7 @@ use Rattle.residue_sums.specs.Sums.{sum_below}
 use Rattle.residue_sums.specs.Tables.{Table, product, times, transpose, oriented}
 use Rattle.residue_sums.specs.Grids.{Grid, entry}
 use Rattle.residue_sums.proofs.Congruence.{Cong-sym, Cong-trans, Cong-add, Cong-scale, Cong-by, Cong-mod, Cong-multiple, Cong-from_same, Cong-from_difference, mod_from_Cong}
-use Rattle.residue_sums.proofs.Sums.{sum_below-same, sum_below-one_out, sum_below-shrink, sum_below-split, sum_below-zero, without}
+use Rattle.residue_sums.proofs.Sums.{sum_below-same, sum_below-one_out, without}
 use Rattle.structure_rules.specs.declared.Structure.{Structure}
 use Rattle.structure_rules.specs.declared.Structure.TheVariants.{General, Lower, UnitLower, Upper, UnitUpper, Diagonal, Symmetric}
 use Rattle.structure_rules.specs.Structures.{view, IsEntry, IsTriangular}
@@ -21,6 +21,7 @@ use Rattle.matrix_parts.specs.Lent.{grid_of}
 use Rattle.equation.specs.Kernels.{IsSolvedSylvester, combined}
 use Rattle.part_solves.specs.SylvesterSystems.{sign, two_sided, block_of}
 use Rattle.operand_lines.proofs.PartValues.{IsValue-part}
+use Rattle.part_solves.proofs.LineSteps.{two_spans}
 
 module _ (m rows cols : ℕ) (negative : Bool) (t u : Table) (row_order col_order : ℕ → ℕ) where
   abbrev place : Table
@@ -156,28 +157,6 @@ taken m false a b x two h =
     let e : ℕ = m - 1 in
     let e_is : e + 1 ≡ m = omega arith in
     Cong-by (Cong-add h (Cong-multiple m b)) (omega (arith, ap (λ (k : ℕ). b * k) e_is))
-
--- a sum whose terms outside a span are 0
-sum_of_span : (f : ℕ → ℕ) (n a la : ℕ) → a + la ≤ n → ((k : ℕ) → k < n → (k < a) ⊎ (a + la ≤ k) → f k ≡ 0) → sum_below f n ≡ sum_below (λ k. f (a + k)) la
-sum_of_span f n a la within zeros =
-    sum_below-shrink f n (a + la) within (λ k past below. zeros k below (inr past)) ∙ sum_below-split f a la
-    ∙ omega (arith, sum_below-zero f a (λ k before. zeros k (omega arith) (inl before)))
-
--- and one whose terms outside two spans are
-two_in_order : (f : ℕ → ℕ) (n a la b lb : ℕ) → b + lb ≤ n → a + la ≤ b
-    → ((k : ℕ) → k < n → (k < a) ⊎ (a + la ≤ k) → (k < b) ⊎ (b + lb ≤ k) → f k ≡ 0)
-    → sum_below f n ≡ sum_below (λ k. f (a + k)) la + sum_below (λ k. f (b + k)) lb
-two_in_order f n a la b lb within order zeros =
-    sum_below-shrink f n (b + lb) within (λ k past below. zeros k below (inr (omega arith)) (inr past)) ∙ sum_below-split f b lb
-    ∙ omega (arith, sum_of_span f b a la order (λ k below place. zeros k (omega arith) place (inl below)))
-
-pub two_spans : (f : ℕ → ℕ) (n a la b lb : ℕ) → a + la ≤ n → b + lb ≤ n → (b + lb ≤ a) ⊎ (a + la ≤ b)
-    → ((k : ℕ) → k < n → (k < a) ⊎ (a + la ≤ k) → (k < b) ⊎ (b + lb ≤ k) → f k ≡ 0)
-    → sum_below f n ≡ sum_below (λ k. f (a + k)) la + sum_below (λ k. f (b + k)) lb
-two_spans f n a la b lb within within' (inr order) zeros = two_in_order f n a la b lb within' order zeros
-two_spans f n a la b lb within within' (inl order) zeros =
-    let turned : sum_below f n ≡ sum_below (λ k. f (b + k)) lb + sum_below (λ k. f (a + k)) la = two_in_order f n b lb a la within order (λ k below place place'. zeros k below place' place) in
-    omega arith
 
 -- a piece of columns is solved: r is the block less what the columns before give, x the piece, and w' has it
 module _ (m rows cols lines first from len start : ℕ) (negative : Bool) (t u : Table) (order : ℕ → ℕ) (triangle : IsTriangle cols order u)

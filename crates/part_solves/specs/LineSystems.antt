@@ -1,5 +1,5 @@
 -- Triangular systems on the lines of a part: row i of a triangular table is an equation between the unknowns of each line.
-use Rattle.std.specs.Prelude.{◌≡◌, ◌≢◌, ℕ, ◌+◌, ◌-◌, ◌*◌, ◌<◌, ◌≤◌, ◌⊎◌, ◌^◌, Bool, true, false, List, slice_index, if◌then◌else◌}
+use Rattle.std.specs.Prelude.{◌≡◌, ◌≢◌, ℕ, ◌+◌, ◌-◌, ◌*◌, ◌<◌, ◌%◌, ◌≤◌, ◌⊎◌, ◌^◌, Bool, true, false, List, length, slice_index, if◌then◌else◌}
 use Rattle.residue_sums.specs.Residues.{Cong}
 use Rattle.residue_sums.specs.Sums.{sum_below}
 use Rattle.residue_sums.specs.Tables.{Table, oriented}
@@ -55,16 +55,39 @@ equation_of UnitUpper n r = record { unknown = n - 1 - r; from = n - r; len = r 
 equation_of Diagonal n r = record { unknown = r; from = 0; len = 0 }
 equation_of _ n r = record { unknown = r; from = 0; len = r }
 
--- the equation has one of so many rows of a band, and reads columns of the band
-pub record IsInBand (band : Band) (count : ℕ) (e : Equation) : Type 0 where
+-- of the unknowns that the equation after r + late others reads, those solved for before the last `late` of these, and those
+abbrev pub early_of : Structure → ℕ → ℕ → ℕ → Equation
+early_of Upper n r late = record { unknown = n - 1 - (r + late); from = n - r; len = r }
+early_of UnitUpper n r late = record { unknown = n - 1 - (r + late); from = n - r; len = r }
+early_of Diagonal n r late = record { unknown = r + late; from = 0; len = 0 }
+early_of _ n r late = record { unknown = r + late; from = 0; len = r }
+
+abbrev pub late_of : Structure → ℕ → ℕ → ℕ → Equation
+late_of Upper n r late = record { unknown = n - 1 - (r + late); from = n - (r + late); len = late }
+late_of UnitUpper n r late = record { unknown = n - 1 - (r + late); from = n - (r + late); len = late }
+late_of Diagonal n r late = record { unknown = r + late; from = 0; len = 0 }
+late_of _ n r late = record { unknown = r + late; from = r; len = late }
+
+-- the equation has one of the rows of a band, and reads columns of the band
+pub record IsInBand (band : Band) (e : Equation) : Type 0 where
   pub above : band.row ≤ e.unknown
-  pub below : e.unknown < band.row + count
+  pub below : e.unknown < band.row + band.count
   pub left : band.from ≤ e.from
   pub right : e.from + e.len ≤ band.from + band.width
+
+-- a list has the rows of a band, one behind the other
+pub record AreBandRows (t : Oper) (band : Band) (xs : List ℕ) : Type 0 where
+  pub room : band.count * band.width ≤ length xs
+  pub entries : (i k : ℕ) → i < band.count → k < band.width → slice_index xs (i * band.width + k) ≡ op_table t (band.row + i) (band.from + k)
 
 -- line g of a list that has lines of n numbers, one behind the other
 abbrev pub line_of : List ℕ → ℕ → ℕ → ℕ → ℕ
 line_of xs n g k = slice_index xs (g * n + k)
+
+-- for each of so many lines the sum of an equation's terms over its span, which it reads of lines of a list
+abbrev pub AreSpanSums : LineSystem → Equation → ℕ → List ℕ → (ℕ → ℕ) → Type 0
+AreSpanSums system e lines xs sums = (g : ℕ) → g < lines → sums g
+    ≡ sum_below (λ k. op_table system.table e.unknown (e.from + k) * line_of xs (op_rows system.table) g (e.from + k)) e.len % system.reducer
 
 -- of n unknowns on a line, those that are asked for and come before place q are solved for; all others are as before
 pub record IsSolvedTo (m n : ℕ) (IsAsked : ℕ → Type 0) (t : Table) (order : ℕ → ℕ) (before now : ℕ → ℕ) (q : ℕ) : Type 0 where
@@ -90,6 +113,15 @@ pub record IsFor (system : LineSystem) (g : Grid) : Type 0 where
   pub size : line_size system.turned g ≡ op_rows system.table
   pub few : op_rows system.table < 2 ^ 32
   pub residues : (i j : ℕ) → i < g.rows → j < g.cols → entry g i j < system.reducer
+
+-- of so many lines of a block, from one on, the unknowns before `to` are those of a list; all other entries are as before
+pub record AreWritten (system : LineSystem) (first lines to : ℕ) (xs : List ℕ) (old new : Grid) : Type 0 where
+  pub here : (g k : ℕ) → g < lines → k < to → IsInLine system.turned system.inside (first + g) k
+      → oriented system.turned (entry new) (first + g) k ≡ line_of xs (op_rows system.table) g k
+  pub others : (h k : ℕ) → h < line_count system.turned old → k < op_rows system.table
+      → (h < first) ⊎ ((first + lines ≤ h) ⊎ ((to ≤ k) ⊎ ¬ (IsInLine system.turned system.inside h k)))
+      → oriented system.turned (entry new) h k ≡ oriented system.turned (entry old) h k
+  pub residues : (i j : ℕ) → i < old.rows → j < old.cols → entry new i j < system.reducer
 
 -- of a block's lines those from one on, and before another, are solved; all other entries are as before
 pub record AreLinesSolved (system : LineSystem) (from to : ℕ) (old new : Grid) : Type 0 where

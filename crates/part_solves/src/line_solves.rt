@@ -9,9 +9,9 @@ ghost use Rattle.structure_rules.specs.declared.Structure.TheVariants.{General};
 ghost use Rattle.structure_rules.specs.Structures.{IsZero};
 ghost use Rattle.matrix_parts.specs.Opers.{op_rows, op_cols, op_table, IsOper};
 ghost use Rattle.matrix_parts.specs.Lent.{grid_of, loan_of, IsPart, IsKept};
-ghost use Rattle.part_solves.specs.LineSystems.{IsReady, IsFor, IsInLine, AreSolvedTo, AreLinesSolved, line_of, line_table, line_count, line_size};
+ghost use Rattle.part_solves.specs.LineSystems.{IsReady, IsFor, IsInLine, AreWritten, AreSolvedTo, AreLinesSolved, line_of, line_table, line_count, line_size};
 
-use crate::line_systems::LineSystem;
+use crate::line_systems::{LineSystem, Lines};
 use crate::panel_solves::{GROUP, solve_panel};
 use matrix_parts::{Oper, PartMut};
 use operand_lines::fill_lines;
@@ -91,6 +91,80 @@ impl<'a> LineSystem<'a> {
         }
     }
 
+    /// Writes the unknowns of so many lines of a part, from a panel, line by line.
+    fn write_by_lines(&self, w: &mut PartMut<'_>, first: u32, lines: usize, panel: &[u64])
+        requires part { IsPart w.old }
+        requires system { IsFor self.now (grid_of w.old) }
+        requires lines_in { first + lines ≤ line_count self.now.turned (grid_of w.old) }
+        requires room { lines * op_rows self.now.table ≤ length panel.now }
+        requires panel { (g k : ℕ) → g < lines → k < op_rows self.now.table
+            → line_of panel.now (op_rows self.now.table) g k < self.now.reducer }
+        ensures loan { loan_of w.new ≡ loan_of w.old }
+        ensures part { IsPart w.new }
+        ensures kept { IsKept w.old w.new }
+        ensures written { AreWritten self.now first lines (op_rows self.now.table) panel.now
+            (grid_of w.old) (grid_of w.new) }
+    {
+        for g in 0..lines {
+            self.write_line(w, first, g, panel);
+        }
+    }
+
+    /// Writes unknown k of so many lines of a part, from a panel.
+    fn write_across(&self, w: &mut PartMut<'_>, lines: Lines, k: u32, panel: &[u64])
+        requires part { IsPart w.old }
+        requires system { IsFor self.now (grid_of w.old) }
+        requires lines_in { lines.first + lines.count ≤ line_count self.now.turned (grid_of w.old) }
+        requires unknown_in { k < op_rows self.now.table }
+        requires room { lines.count * op_rows self.now.table ≤ length panel.now }
+        requires panel { (g : ℕ) → g < lines.count
+            → line_of panel.now (op_rows self.now.table) g k < self.now.reducer }
+        ensures loan { loan_of w.new ≡ loan_of w.old }
+        ensures part { IsPart w.new }
+        ensures kept { IsKept w.old w.new }
+        ensures here { (g : ℕ) → g < lines.count
+            → IsInLine self.now.turned self.now.inside (lines.first + g) k
+            → oriented self.now.turned (entry (grid_of w.new)) (lines.first + g) k
+            ≡ line_of panel.now (op_rows self.now.table) g k }
+        ensures others { (h q : ℕ) → h < line_count self.now.turned (grid_of w.old)
+            → q < op_rows self.now.table → (q ≢ k) ⊎ ((h < lines.first)
+            ⊎ ((lines.first + lines.count ≤ h) ⊎ ¬ (IsInLine self.now.turned self.now.inside h q)))
+            → oriented self.now.turned (entry (grid_of w.new)) h q
+            ≡ oriented self.now.turned (entry (grid_of w.old)) h q }
+        ensures residues { (a b : ℕ) → a < w.old.rows → b < w.old.cols
+            → entry (grid_of w.new) a b < self.now.reducer }
+    {
+        let _count = self.count(w);
+        let n = self.size() as usize;
+        for g in 0..lines.count {
+            self.write_unknown(w, lines.first + g as u32, k, panel[g * n + k as usize]);
+        }
+    }
+
+    /// Writes the unknowns of so many lines of a part, from a panel, unknown by unknown: where lines are columns of the part,
+    /// one unknown's are neighbours.
+    fn write_by_unknowns(&self, w: &mut PartMut<'_>, first: u32, lines: usize, panel: &[u64])
+        requires part { IsPart w.old }
+        requires system { IsFor self.now (grid_of w.old) }
+        requires lines_in { first + lines ≤ line_count self.now.turned (grid_of w.old) }
+        requires room { lines * op_rows self.now.table ≤ length panel.now }
+        requires panel { (g k : ℕ) → g < lines → k < op_rows self.now.table
+            → line_of panel.now (op_rows self.now.table) g k < self.now.reducer }
+        ensures loan { loan_of w.new ≡ loan_of w.old }
+        ensures part { IsPart w.new }
+        ensures kept { IsKept w.old w.new }
+        ensures written { AreWritten self.now first lines (op_rows self.now.table) panel.now
+            (grid_of w.old) (grid_of w.new) }
+    {
+        let lines = Lines {
+            first,
+            count: lines,
+        };
+        for k in 0..self.size() {
+            self.write_across(w, lines, k, panel);
+        }
+    }
+
     /// Writes the unknowns of so many lines of a part, from a panel.
     pub(crate) fn write_lines(&self, w: &mut PartMut<'_>, first: u32, lines: usize, panel: &[u64])
         requires part { IsPart w.old }
@@ -109,77 +183,93 @@ impl<'a> LineSystem<'a> {
             → oriented self.now.turned (entry (grid_of w.new)) h k ≡ oriented self.now.turned (entry (grid_of w.old)) h k }
         ensures residues { (a b : ℕ) → a < w.old.rows → b < w.old.cols → entry (grid_of w.new) a b < self.now.reducer }
     {
-        for g in 0..lines {
-            self.write_line(w, first, g, panel);
+        if self.turned {
+            self.write_by_unknowns(w, first, lines, panel);
+        } else {
+            self.write_by_lines(w, first, lines, panel);
         }
     }
 
-    /// Solves the system on as many lines of a part as `sums` has numbers, from one line on.
+    /// Solves the system on lines of a part. `scratch` has room for four numbers for each.
     fn solve_piece(
         &self,
         w: &mut PartMut<'_>,
-        first: u32,
+        lines: Lines,
         panel: &mut [u64],
         rows: &mut [u64],
-        sums: &mut [u64],
+        scratch: &mut [u64],
     )
         requires ready { IsReady self.now }
         requires part { IsPart w.old }
         requires system { IsFor self.now (grid_of w.old) }
-        requires lines_in { first + length sums.old ≤ line_count self.now.turned (grid_of w.old) }
+        requires lines_in { lines.first + lines.count ≤ line_count self.now.turned (grid_of w.old) }
         requires few { op_rows self.now.table < 2 ^ 31 }
         requires entries { GROUP * op_rows self.now.table ≤ length rows.old }
-        requires room { length sums.old * op_rows self.now.table ≤ length panel.old }
+        requires room { lines.count * op_rows self.now.table ≤ length panel.old }
+        requires scratch { length scratch.old ≡ 4 * lines.count }
         ensures loan { loan_of w.new ≡ loan_of w.old }
         ensures part { IsPart w.new }
         ensures kept { IsKept w.old w.new }
-        ensures solved { AreLinesSolved self.now first (first + length sums.old) (grid_of w.old) (grid_of w.new) }
+        ensures solved { AreLinesSolved self.now lines.first (lines.first + lines.count)
+            (grid_of w.old) (grid_of w.new) }
     {
         let _count = self.count(w);
-        let lines = sums.len();
         fill_lines(
             &self.lines_of(w),
-            first,
+            lines.first,
             0,
             self.size() as usize,
-            lines,
+            lines.count,
             panel,
         );
-        solve_panel(self, first, panel, rows, sums);
-        self.write_lines(w, first, lines, panel);
+        solve_panel(self, lines, panel, rows, scratch);
+        self.write_lines(w, lines.first, lines.count, panel);
     }
 
-    /// Solves the system on all lines of a part, by panels that fit into a buffer.
-    fn solve_by_panels(
-        &self,
-        w: &mut PartMut<'_>,
-        panel: &mut [u64],
-        rows: &mut [u64],
-        sums: &mut [u64],
-    )
+    /// Solves the system on all lines of a part, by panels that fit into a buffer: it has room for the rows of a group of
+    /// equations, for sums, and for a line or more.
+    fn solve_by_panels(&self, w: &mut PartMut<'_>, room: &mut [u64])
         requires ready { IsReady self.now }
         requires part { IsPart w.old }
         requires system { IsFor self.now (grid_of w.old) }
         requires few { op_rows self.now.table < 2 ^ 31 }
-        requires entries { GROUP * op_rows self.now.table ≤ length rows.old }
-        requires room { op_rows self.now.table ≤ length panel.old }
-        requires lines { 0 < length sums.old }
+        requires room { GROUP * op_rows self.now.table + 4 * LINES + op_rows self.now.table
+            ≤ length room.old }
         ensures loan { loan_of w.new ≡ loan_of w.old }
         ensures part { IsPart w.new }
         ensures kept { IsKept w.old w.new }
         ensures solved { AreLinesSolved self.now 0 (line_count self.now.turned (grid_of w.old)) (grid_of w.old) (grid_of w.new) }
     {
-        let count = self.count(w);
-        let most = lines_at_once(panel.len(), self.size() as usize, sums.len());
-        let mut at = 0;
-        while at < count {
-            let lines = usize::min(most, (count - at) as usize);
-            self.solve_piece(w, at, panel, rows, &mut sums[..lines]);
-            at += lines as u32;
+        let all = self.count(w);
+        let n = self.size() as usize;
+        let (rows, rest) = room.split_at_mut(GROUP as usize * n);
+        let (scratch, panel) = rest.split_at_mut(4 * LINES);
+        let most = lines_at_once(panel.len(), n, LINES);
+        let mut first = 0;
+        while first < all {
+            let count = usize::min(most, (all - first) as usize);
+            let lines = Lines { first, count };
+            self.solve_piece(w, lines, panel, rows, &mut scratch[..4 * count]);
+            first += count as u32;
         }
     }
 
-    /// The same where a line has at most 128 unknowns.
+    /// The same where a line has at most 32 unknowns.
+    fn solve_least(&self, w: &mut PartMut<'_>)
+        requires ready { IsReady self.now }
+        requires part { IsPart w.old }
+        requires system { IsFor self.now (grid_of w.old) }
+        requires least { op_rows self.now.table ≤ 32 }
+        ensures loan { loan_of w.new ≡ loan_of w.old }
+        ensures part { IsPart w.new }
+        ensures kept { IsKept w.old w.new }
+        ensures solved { AreLinesSolved self.now 0 (line_count self.now.turned (grid_of w.old)) (grid_of w.old) (grid_of w.new) }
+    {
+        let mut room = [0; 2048];
+        self.solve_by_panels(w, &mut room);
+    }
+
+    /// The same where it has at most 128.
     fn solve_short(&self, w: &mut PartMut<'_>)
         requires ready { IsReady self.now }
         requires part { IsPart w.old }
@@ -190,10 +280,8 @@ impl<'a> LineSystem<'a> {
         ensures kept { IsKept w.old w.new }
         ensures solved { AreLinesSolved self.now 0 (line_count self.now.turned (grid_of w.old)) (grid_of w.old) (grid_of w.new) }
     {
-        let mut panel = [0; 4096];
-        let mut rows = [0; 1024];
-        let mut sums = [0; 64];
-        self.solve_by_panels(w, &mut panel, &mut rows, &mut sums);
+        let mut room = [0; 6144];
+        self.solve_by_panels(w, &mut room);
     }
 
     /// The same where it has at most 2048.
@@ -207,10 +295,8 @@ impl<'a> LineSystem<'a> {
         ensures kept { IsKept w.old w.new }
         ensures solved { AreLinesSolved self.now 0 (line_count self.now.turned (grid_of w.old)) (grid_of w.old) (grid_of w.new) }
     {
-        let mut panel = [0; 32768];
-        let mut rows = [0; 16384];
-        let mut sums = [0; 64];
-        self.solve_by_panels(w, &mut panel, &mut rows, &mut sums);
+        let mut room = [0; 61440];
+        self.solve_by_panels(w, &mut room);
     }
 
     /// Solves the system on all lines of a part.
@@ -224,12 +310,16 @@ impl<'a> LineSystem<'a> {
         ensures solved { AreLinesSolved self.now 0 (line_count self.now.turned (grid_of w.old)) (grid_of w.old) (grid_of w.new) }
     {
         match self.size() {
-            0..=128 => self.solve_short(w),
+            0..=32 => self.solve_least(w),
+            33..=128 => self.solve_short(w),
             129..=2048 => self.solve_long(w),
             _ => self.solve_plainly(w),
         }
     }
 }
+
+/// How many lines are solved at once, at most.
+const LINES: usize = 64;
 
 /// How many lines of n numbers a panel has room for, at most so many.
 pub(crate) fn lines_at_once(room: usize, n: usize, most: usize) -> usize

@@ -40,13 +40,21 @@ pub(crate) struct Group {
     pub(crate) count: u32,
 }
 
-/// The rows of the table that a group of equations has, from one on, and the columns that they read, so many from another
-/// one on.
+/// The rows of the table that a group of equations has, so many from one on, and the columns that they read, so many from
+/// another one on.
 #[derive(Clone, Copy, Debug)]
 pub(crate) struct Band {
     pub(crate) row: u32,
+    pub(crate) count: u32,
     pub(crate) from: u32,
     pub(crate) width: u32,
+}
+
+/// So many lines of a part, from a first one on.
+#[derive(Clone, Copy, Debug)]
+pub(crate) struct Lines {
+    pub(crate) first: u32,
+    pub(crate) count: usize,
 }
 
 impl<'a> LineSystem<'a> {
@@ -58,7 +66,7 @@ impl<'a> LineSystem<'a> {
     }
 
     /// The structure of the table, as it is oriented.
-    fn structure(&self) -> Structure
+    pub(crate) fn structure(&self) -> Structure
         ensures { result ≡ structure_of self.now.table.primed self.now.table.structure }
     {
         if self.table.primed {
@@ -112,22 +120,27 @@ impl<'a> LineSystem<'a> {
     /// The rows and the columns of the table that a group of equations reads.
     pub(crate) fn band_of(&self, group: Group) -> Band
         requires within { group.start + group.count ≤ op_rows self.now.table }
+        ensures count { result.count ≡ group.count }
         ensures rows { result.row + group.count ≤ op_rows self.now.table }
         ensures cols { result.from + result.width ≤ op_rows self.now.table }
         ensures width { result.width ≡ group.start + group.count }
         ensures holds { (r : ℕ) → group.start ≤ r → r < group.start + group.count
-            → IsInBand result group.count (equation_of (structure_of self.now.table.primed self.now.table.structure) (op_rows self.now.table) r) }
+            → IsInBand result
+            (equation_of (structure_of self.now.table.primed self.now.table.structure)
+            (op_rows self.now.table) r) }
     {
         let n = self.size();
         let width = group.start + group.count;
         match self.structure() {
             Structure::Upper | Structure::UnitUpper => Band {
                 row: n - width,
+                count: group.count,
                 from: n - width,
                 width,
             },
             _ => Band {
                 row: group.start,
+                count: group.count,
                 from: 0,
                 width,
             },
@@ -174,7 +187,8 @@ impl<'a> LineSystem<'a> {
     }
 }
 
-/// The x for which `sum + t * x` is the right side, where `inverse` is that of t.
+/// The x for which `sum + t * x` is the right side, where `inverse` is that of t. The difference is reduced as a sum, since a
+/// test whether it is negative would be foreseen wrongly every second time.
 pub(crate) fn unknown(m: Reducer, right: u64, sum: u64, inverse: u64) -> u64
     requires right { right < m }
     requires sum { sum < m }
@@ -182,7 +196,6 @@ pub(crate) fn unknown(m: Reducer, right: u64, sum: u64, inverse: u64) -> u64
     ensures solves { (t : ℕ) → (t * inverse) % m ≡ 1 → Cong m (sum + t * result) right }
     ensures range { result < m }
 {
-    let modulus = m.modulus();
-    let _value = modulus.value();
-    m.product(modulus.sub(right, sum), inverse)
+    let value = m.modulus().value();
+    m.product(m.residue(right + value - sum), inverse)
 }

@@ -1,14 +1,15 @@
 //! Lines of a triangular system, copied side by side into a panel and solved there: each equation at once on all lines.
 
-ghost use Rattle.std.specs.Prelude.{◌≡◌, ◌≢◌, ℕ, ◌+◌, ◌-◌, ◌*◌, ◌%◌, ◌<◌, ◌≤◌, ◌⊎◌, ◌^◌, IsTrue, length, slice_index};
+ghost use Rattle.std.specs.Prelude.{◌≡◌, ◌≢◌, ℕ, ◌+◌, ◌*◌, ◌%◌, ◌<◌, ◌≤◌, ◌^◌, IsTrue, length, slice_index};
 ghost use Rattle.residue_sums.specs.Residues.{Cong};
 ghost use Rattle.matrix_parts.specs.Opers.{op_rows, op_cols, op_table, IsOper};
-ghost use Rattle.part_solves.specs.LineSystems.{IsReady, IsEquation, IsInLine, AreSolvedTo, line_of, order_in};
+ghost use Rattle.part_solves.specs.LineSystems.{IsReady, IsInLine, AreSolvedTo, line_of};
 
-use crate::line_systems::{Band, Equation, Group, LineSystem, unknown};
+use crate::line_systems::{Group, LineSystem, Lines, unknown};
+use crate::three_solves::{BandRows, solve_three};
 use matrix_parts::Oper;
 use operand_lines::fill_lines;
-use row_products::{Panel, Reducer, row_sums};
+use row_products::Reducer;
 
 /// Solves for the unknown at a place of a panel, where it is inside. No other place changes.
 fn put_unknown(m: Reducer, is_inside: bool, inverse: u64, sum: u64, panel: &mut [u64], at: usize)
@@ -28,7 +29,7 @@ fn put_unknown(m: Reducer, is_inside: bool, inverse: u64, sum: u64, panel: &mut 
 }
 
 /// Solves for unknown i of each line, where it is inside: `sums` has what its equation reads of the other unknowns.
-fn put_unknowns(
+pub(crate) fn put_unknowns(
     system: &LineSystem<'_>,
     first: u32,
     i: u32,
@@ -78,83 +79,30 @@ pub(crate) fn fill_row(o: &Oper<'_>, i: u32, from: u32, row: &mut [u64])
     fill_lines(o, i, from, row.len(), 1, row);
 }
 
-/// What an equation reads of the rows of a band, which lie one behind the other.
-fn row_of_band<'b>(band: Band, e: Equation, rows: &'b [u64]) -> &'b [u64]
-    requires above { band.row ≤ e.unknown }
-    requires left { band.from ≤ e.from }
-    requires right { e.from + e.len ≤ band.from + band.width }
-    requires room { (e.unknown - band.row + 1) * band.width ≤ length rows.now }
-    ensures len { length result.now ≡ e.len }
-    ensures entries { (k : ℕ) → k < e.len
-        → slice_index result.now k ≡ slice_index rows.now ((e.unknown - band.row) * band.width + (e.from - band.from + k)) }
-{
-    let start = (e.unknown - band.row) as usize * band.width as usize;
-    let start = start + (e.from - band.from) as usize;
-    &rows[start..start + e.len as usize]
-}
-
-/// Solves an equation on each line of a panel. `row` has the entries that it reads, and `sums` room for one number for each
-/// line.
-fn solve_equation(
-    system: &LineSystem<'_>,
-    first: u32,
-    e: Equation,
-    panel: &mut [u64],
-    row: &[u64],
-    sums: &mut [u64],
-)
-    requires ready { IsReady system.now }
-    requires equation { IsEquation system.now.table e }
-    requires entries { length row.now ≡ e.len }
-    requires row { (k : ℕ) → k < e.len → slice_index row.now k ≡ op_table system.now.table e.unknown (e.from + k) }
-    requires lines { first + length sums.old < 2 ^ 32 }
-    requires few { op_rows system.now.table < 2 ^ 31 }
-    requires room { length sums.old * op_rows system.now.table ≤ length panel.old }
-    requires residues { (g k : ℕ) → g < length sums.old → k < op_rows system.now.table
-        → line_of panel.old (op_rows system.now.table) g k < system.now.reducer }
-    ensures solved { (before : ℕ → ℕ → ℕ) → AreSolvedTo system.now first (length sums.old) before panel.old (order_in system.now.table e.unknown)
-        → AreSolvedTo system.now first (length sums.old) before panel.new (order_in system.now.table e.unknown + 1) }
-    ensures residues { (g k : ℕ) → g < length sums.old → k < op_rows system.now.table
-        → line_of panel.new (op_rows system.now.table) g k < system.now.reducer }
-{
-    system.has_residues();
-    let lines = Panel {
-        entries: panel,
-        height: system.size() as usize,
-        from: e.from as usize,
-    };
-    row_sums(system.reducer, row, lines, sums);
-    put_unknowns(
-        system,
-        first,
-        e.unknown,
-        system.inverse_at(e.unknown),
-        panel,
-        sums,
-    );
-}
-
-/// Solves a group of equations on each line of a panel. Their rows of the table are copied at once, since where they are
-/// columns of a matrix, neighbours share places of a cache. `rows` has room for them.
+/// Solves a group of equations on each line of a panel, three at a time. Their rows of the table are copied at once, since
+/// where they are columns of a matrix, neighbours share places of a cache. `rows` has room for them.
 fn solve_group(
     system: &LineSystem<'_>,
-    first: u32,
+    lines: Lines,
     group: Group,
     panel: &mut [u64],
     rows: &mut [u64],
-    sums: &mut [u64],
+    scratch: &mut [u64],
 )
     requires ready { IsReady system.now }
     requires within { group.start + group.count ≤ op_rows system.now.table }
     requires entries { group.count * (group.start + group.count) ≤ length rows.old }
-    requires lines { first + length sums.old < 2 ^ 32 }
+    requires lines { lines.first + lines.count < 2 ^ 32 }
     requires few { op_rows system.now.table < 2 ^ 31 }
-    requires room { length sums.old * op_rows system.now.table ≤ length panel.old }
-    requires residues { (g k : ℕ) → g < length sums.old → k < op_rows system.now.table
+    requires room { lines.count * op_rows system.now.table ≤ length panel.old }
+    requires scratch { length scratch.old ≡ 4 * lines.count }
+    requires residues { (g k : ℕ) → g < lines.count → k < op_rows system.now.table
         → line_of panel.old (op_rows system.now.table) g k < system.now.reducer }
-    ensures solved { (before : ℕ → ℕ → ℕ) → AreSolvedTo system.now first (length sums.old) before panel.old group.start
-        → AreSolvedTo system.now first (length sums.old) before panel.new (group.start + group.count) }
-    ensures residues { (g k : ℕ) → g < length sums.old → k < op_rows system.now.table
+    ensures solved { (before : ℕ → ℕ → ℕ)
+        → AreSolvedTo system.now lines.first lines.count before panel.old group.start
+        → AreSolvedTo system.now lines.first lines.count before panel.new
+        (group.start + group.count) }
+    ensures residues { (g k : ℕ) → g < lines.count → k < op_rows system.now.table
         → line_of panel.new (op_rows system.now.table) g k < system.now.reducer }
 {
     let band = system.band_of(group);
@@ -163,44 +111,54 @@ fn solve_group(
         band.row,
         band.from,
         band.width as usize,
-        group.count as usize,
+        band.count as usize,
         rows,
     );
-    for i in 0..group.count {
-        let e = system.equation_at(group.start + i);
-        solve_equation(system, first, e, panel, row_of_band(band, e, rows), sums);
+    let rows = BandRows {
+        band,
+        entries: rows,
+    };
+    let mut done = 0;
+    while done < group.count {
+        let three = Group {
+            start: group.start + done,
+            count: u32::min(3, group.count - done),
+        };
+        solve_three(system, lines, three, rows, panel, scratch);
+        done += three.count;
     }
 }
 
-/// How many equations are solved in a group, at most: as many as a line of a cache has numbers.
-pub(crate) const GROUP: u32 = 8;
+/// How many equations are solved in a group, at most: more than a line of a cache has numbers, and a multiple of three.
+pub(crate) const GROUP: u32 = 12;
 
 /// Solves all equations on each line of a panel, one after another. `rows` has room for the entries of a group of rows of the
-/// table, and `sums` for one number for each line.
+/// table, and `scratch` for four numbers for each line.
 pub(crate) fn solve_panel(
     system: &LineSystem<'_>,
-    first: u32,
+    lines: Lines,
     panel: &mut [u64],
     rows: &mut [u64],
-    sums: &mut [u64],
+    scratch: &mut [u64],
 )
     requires ready { IsReady system.now }
     requires entries { GROUP * op_rows system.now.table ≤ length rows.old }
-    requires lines { first + length sums.old < 2 ^ 32 }
+    requires lines { lines.first + lines.count < 2 ^ 32 }
     requires few { op_rows system.now.table < 2 ^ 31 }
-    requires room { length sums.old * op_rows system.now.table ≤ length panel.old }
-    requires residues { (g k : ℕ) → g < length sums.old → k < op_rows system.now.table
+    requires room { lines.count * op_rows system.now.table ≤ length panel.old }
+    requires scratch { length scratch.old ≡ 4 * lines.count }
+    requires residues { (g k : ℕ) → g < lines.count → k < op_rows system.now.table
         → line_of panel.old (op_rows system.now.table) g k < system.now.reducer }
-    ensures solved { AreSolvedTo system.now first (length sums.old) (line_of panel.old (op_rows system.now.table)) panel.new
-        (op_rows system.now.table) }
-    ensures residues { (g k : ℕ) → g < length sums.old → k < op_rows system.now.table
+    ensures solved { AreSolvedTo system.now lines.first lines.count
+        (line_of panel.old (op_rows system.now.table)) panel.new (op_rows system.now.table) }
+    ensures residues { (g k : ℕ) → g < lines.count → k < op_rows system.now.table
         → line_of panel.new (op_rows system.now.table) g k < system.now.reducer }
 {
     let n = system.size();
     let mut start = 0;
     while start < n {
         let count = u32::min(GROUP, n - start);
-        solve_group(system, first, Group { start, count }, panel, rows, sums);
+        solve_group(system, lines, Group { start, count }, panel, rows, scratch);
         start += count;
     }
 }

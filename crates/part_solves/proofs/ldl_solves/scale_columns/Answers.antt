@@ -1,7 +1,6 @@
-use Rattle.std.proofs.Common.{◌≡◌, ℕ, ◌+◌, ◌*◌, ◌%◌, ◌<◌, ◌≤◌, inl, inr, ap, ◌∙◌, arith}
+use Rattle.std.proofs.Common.{ℕ, ◌*◌, ◌%◌, ◌<◌, inl, inr, ap, ◌∙◌, arith}
 use Rattle.std.proofs.lemmas.Bool.{cases_eq}
 use Rattle.residue_sums.specs.Grids.{entry}
-use Rattle.matrix_parts.specs.Lent.{grid_of}
 use Rattle.matrix_parts.proofs.Kept.{IsKept-then}
 use Rattle.part_solves.proofs.ldl_solves.scale_columns.Goals as goal
 

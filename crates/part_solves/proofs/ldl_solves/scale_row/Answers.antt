@@ -1,4 +1,4 @@
-use Rattle.std.proofs.Common.{◌≡◌, ◌≢◌, ◌⊎◌, ℕ, ◌+◌, ◌*◌, ◌%◌, ◌<◌, ◌≤◌, inl, inr, ◌∙◌, arith, below_more}
+use Rattle.std.proofs.Common.{◌≡◌, ℕ, ◌*◌, ◌%◌, ◌<◌, inl, inr, ◌∙◌, arith, below_more}
 use Rattle.residue_sums.specs.Grids.{entry}
 use Rattle.matrix_parts.specs.Lent.{grid_of}
 use Rattle.matrix_parts.proofs.Kept.{IsKept-then}

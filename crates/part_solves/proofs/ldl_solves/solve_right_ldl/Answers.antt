@@ -1,4 +1,4 @@
-use Rattle.std.proofs.Common.{◌≡◌, ℕ, ◌*◌, ◌%◌, ◌<◌, ◌∙◌, arith}
+use Rattle.std.proofs.Common.{arith}
 use Rattle.residue_sums.specs.Grids.{entry}
 use Rattle.residue_sums.proofs.Grids.{entry_below}
 use Rattle.matrix_parts.specs.Lent.{grid_of}

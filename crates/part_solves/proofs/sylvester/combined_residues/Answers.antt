@@ -1,6 +1,3 @@
-use Rattle.std.proofs.Common.{◌≡◌, ◌+◌, ◌-◌, ◌*◌, ◌%◌, ◌<◌}
-use Rattle.residue_sums.specs.Residues.{Cong}
-use Rattle.part_solves.specs.SylvesterSystems.{sign}
 use Rattle.part_solves.proofs.SylvesterSteps.{subtracted}
 use Rattle.part_solves.proofs.sylvester.combined_residues.Goals as goal
 

@@ -1,5 +1,4 @@
-use Rattle.std.proofs.Common.{◌≡◌, ℕ, ◌<◌, ◌≤◌, ◌∙◌, arith}
-use Rattle.residue_sums.specs.Grids.{entry}
+use Rattle.std.proofs.Common.{ℕ, ◌∙◌, arith}
 use Rattle.residue_sums.proofs.Grids.{entry_below}
 use Rattle.matrix_algebra.proofs.Triangles.{structure_of}
 use Rattle.matrix_algebra.proofs.Places.{IsOrder-order_of}

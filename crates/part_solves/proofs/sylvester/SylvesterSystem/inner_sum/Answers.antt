@@ -1,4 +1,4 @@
-use Rattle.std.proofs.Common.{◌≡◌, ℕ, ◌+◌, ◌*◌, ◌%◌, ◌<◌, slice_index, ◌∙◌, arith}
+use Rattle.std.proofs.Common.{◌≡◌, ℕ, ◌+◌, ◌*◌, arith}
 use Rattle.residue_sums.proofs.Sums.{mod_sum_step}
 use Rattle.matrix_parts.specs.Opers.{op_rows, op_table}
 use Rattle.part_solves.specs.LineSystems.{line_of}

@@ -1,7 +1,7 @@
-use Rattle.std.proofs.Common.{◌≡◌, ◌≢◌, ℕ, ◌+◌, ◌*◌, ◌<◌, inr, sym, subst, slice_index, ◌∙◌, arith}
+use Rattle.std.proofs.Common.{◌≡◌, ℕ, ◌+◌, ◌*◌, inr, sym, subst, ◌∙◌, arith}
 use Rattle.residue_sums.proofs.Congruence.{Cong-trans, Cong-from_same}
 use Rattle.matrix_parts.specs.Opers.{op_rows, op_table}
-use Rattle.part_solves.specs.LineSystems.{line_of, order_in}
+use Rattle.part_solves.specs.LineSystems.{order_in}
 use Rattle.part_solves.specs.SylvesterSystems.{IsPieceTo, columns_of}
 use Rattle.part_solves.proofs.LineSteps.{others-agree}
 use Rattle.part_solves.proofs.sylvester.SylvesterSystem.put_entries.Goals as goal

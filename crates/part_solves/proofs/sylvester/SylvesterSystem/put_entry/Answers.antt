@@ -1,16 +1,14 @@
-use Rattle.std.proofs.Common.{◌≡◌, ◌≢◌, ℕ, ◌+◌, ◌*◌, ◌%◌, ◌<◌, ◌≤◌, ◌⊎◌, inl, inr, refl, length, slice_index, slice_set, get_or-set_same, get_or-set_other, ◌∙◌, arith}
-use Rattle.std.proofs.lemmas.Bool.{cases_eq}
+use Rattle.std.proofs.Common.{◌≡◌, ℕ, ◌+◌, ◌*◌, ◌<◌, inl, inr, refl, length, slice_set, get_or-set_same, get_or-set_other, arith}
 use Rattle.std.proofs.lemmas.Nat.{mul-add-lt}
 use Rattle.residue_sums.specs.Residues.{Cong}
-use Rattle.residue_sums.specs.Sums.{sum_below}
 use Rattle.residue_sums.specs.Grids.{entry}
-use Rattle.residue_sums.proofs.Congruence.{Cong-trans, Cong-from_mod, Cong-from_same, Cong-refl}
+use Rattle.residue_sums.proofs.Congruence.{Cong-trans, Cong-from_mod, Cong-from_same}
 use Rattle.matrix_algebra.proofs.Triangles.{IsTriangle-view, structure_of}
 use Rattle.matrix_algebra.proofs.Places.{IsOrder-order_of}
 use Rattle.matrix_parts.specs.Opers.{op_rows, op_table}
 use Rattle.equation.specs.Kernels.{combined}
 use Rattle.part_solves.specs.LineSystems.{line_of, order_in}
-use Rattle.part_solves.specs.SylvesterSystems.{sign, block_of, columns_of, order_within}
+use Rattle.part_solves.specs.SylvesterSystems.{block_of, columns_of, order_within}
 use Rattle.part_solves.proofs.LineSteps.{span_sum, other_place}
 use Rattle.part_solves.proofs.SylvesterSteps.{entry_written, pair_pivot, block_triangle}
 use Rattle.part_solves.proofs.sylvester.SylvesterSystem.put_entry.Goals as goal

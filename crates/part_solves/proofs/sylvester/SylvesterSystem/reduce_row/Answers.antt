@@ -1,5 +1,4 @@
-use Rattle.std.proofs.Common.{◌≡◌, ℕ, ◌+◌, ◌*◌, ◌%◌, ◌<◌, ◌≤◌, ap₂, length, slice_index, ◌∙◌, arith}
-use Rattle.residue_sums.specs.Residues.{Cong}
+use Rattle.std.proofs.Common.{◌≡◌, ℕ, ◌+◌, ◌*◌, ◌%◌, ap₂, length, slice_index, arith}
 use Rattle.residue_sums.specs.Sums.{sum_below}
 use Rattle.residue_sums.specs.Grids.{entry}
 use Rattle.residue_sums.proofs.Congruence.{Cong-sym, Cong-trans, Cong-add, Cong-scale, Cong-by, Cong-from_mod, Cong-from_same}

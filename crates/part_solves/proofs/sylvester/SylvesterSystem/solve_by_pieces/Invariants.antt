@@ -1,4 +1,4 @@
-use Rattle.std.proofs.Common.{◌≡◌, ℕ, ◌-◌, ◌<◌, ◌≤◌}
+use Rattle.std.proofs.Common.{◌≡◌, ◌-◌, ◌≤◌}
 use Rattle.matrix_parts.specs.Lent.{grid_of, loan_of, IsPart, IsKept}
 use Rattle.part_solves.specs.SylvesterSystems.{AreColumnsSolved}
 use Rattle.part_solves.proofs.sylvester.SylvesterSystem.solve_by_pieces.Given as goal

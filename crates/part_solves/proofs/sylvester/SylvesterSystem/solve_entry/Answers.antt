@@ -1,17 +1,14 @@
-use Rattle.std.proofs.Common.{◌≡◌, ◌≢◌, ℕ, ◌+◌, ◌*◌, ◌%◌, ◌<◌, ◌≤◌, ◌⊎◌, inl, inr, refl, ◌∙◌, arith}
+use Rattle.std.proofs.Common.{◌≡◌, ℕ, ◌+◌, ◌*◌, ◌%◌, inl, inr, refl, arith}
 use Rattle.std.proofs.lemmas.Bool.{cases_eq}
-use Rattle.residue_sums.specs.Residues.{Cong}
 use Rattle.residue_sums.specs.Sums.{sum_below}
 use Rattle.residue_sums.specs.Grids.{entry}
 use Rattle.residue_sums.proofs.Congruence.{Cong-trans, Cong-from_mod, Cong-from_same}
-use Rattle.residue_sums.proofs.Sums.{without}
 use Rattle.matrix_algebra.proofs.Triangles.{IsTriangle-view, structure_of}
 use Rattle.matrix_algebra.proofs.Places.{IsOrder-order_of}
 use Rattle.matrix_parts.specs.Opers.{op_rows, op_table}
 use Rattle.matrix_parts.specs.Lent.{grid_of}
 use Rattle.equation.specs.Kernels.{combined}
 use Rattle.part_solves.specs.LineSystems.{order_in}
-use Rattle.part_solves.specs.SylvesterSystems.{sign}
 use Rattle.part_solves.proofs.LineSteps.{span_sum}
 use Rattle.part_solves.proofs.SylvesterSteps.{entry_written, pair_pivot}
 use Rattle.part_solves.proofs.sylvester.SylvesterSystem.solve_entry.Goals as goal

@@ -1,14 +1,12 @@
-use Rattle.std.proofs.Common.{◌≡◌, ◌≢◌, ℕ, ◌+◌, ◌-◌, ◌*◌, ◌<◌, ◌≤◌, ◌⊎◌, inl, inr, ap, ◌∙◌, arith}
+use Rattle.std.proofs.Common.{◌≡◌, ℕ, ◌+◌, ◌-◌, ◌<◌, ◌≤◌, ◌⊎◌, inl, inr, ap, ◌∙◌, arith}
 use Rattle.std.proofs.lemmas.Bool.{cases_lt}
-use Rattle.residue_sums.specs.Residues.{Cong}
-use Rattle.residue_sums.specs.Sums.{sum_below}
 use Rattle.residue_sums.specs.Grids.{entry}
 use Rattle.matrix_algebra.proofs.Triangles.{IsTriangle-view, structure_of}
 use Rattle.matrix_algebra.proofs.Places.{IsOrder-order_of}
 use Rattle.matrix_parts.specs.Opers.{op_rows, op_table}
 use Rattle.matrix_parts.specs.Lent.{grid_of}
 use Rattle.part_solves.specs.LineSystems.{IsInLine, line_of, order_in}
-use Rattle.part_solves.specs.SylvesterSystems.{sign, two_sided, block_of, columns_of, order_within}
+use Rattle.part_solves.specs.SylvesterSystems.{block_of, columns_of, order_within}
 use Rattle.part_solves.proofs.SylvesterSteps.{all_written, block_triangle, piece_solved}
 use Rattle.part_solves.proofs.sylvester.SylvesterSystem.solve_piece.Goals as goal
 

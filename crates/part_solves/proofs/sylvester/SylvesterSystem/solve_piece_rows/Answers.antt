@@ -1,4 +1,4 @@
-use Rattle.std.proofs.Common.{◌≡◌, ℕ, ◌+◌, ◌*◌, ◌<◌, subst, arith}
+use Rattle.std.proofs.Common.{◌≡◌, ℕ, ◌+◌, ◌*◌, subst, arith}
 use Rattle.matrix_parts.specs.Opers.{op_rows}
 use Rattle.part_solves.specs.SylvesterSystems.{IsPieceTo, columns_of}
 use Rattle.part_solves.proofs.sylvester.SylvesterSystem.solve_piece_rows.Goals as goal

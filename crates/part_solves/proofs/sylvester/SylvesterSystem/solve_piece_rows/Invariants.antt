@@ -1,4 +1,4 @@
-use Rattle.std.proofs.Common.{◌≡◌, ℕ, ◌*◌, ◌<◌}
+use Rattle.std.proofs.Common.{ℕ, ◌*◌, ◌<◌}
 use Rattle.matrix_parts.specs.Opers.{op_rows}
 use Rattle.part_solves.specs.LineSystems.{line_of}
 use Rattle.part_solves.specs.SylvesterSystems.{IsPieceTo, columns_of}

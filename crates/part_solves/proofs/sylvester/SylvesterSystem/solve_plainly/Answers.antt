@@ -1,4 +1,4 @@
-use Rattle.std.proofs.Common.{◌≡◌, ℕ, ◌+◌, ◌*◌, ◌<◌, ◌≤◌, ◌⊎◌, inl, inr, subst, ◌∙◌, arith}
+use Rattle.std.proofs.Common.{◌≡◌, ℕ, ◌+◌, ◌*◌, ◌<◌, inl, inr, subst, ◌∙◌, arith}
 use Rattle.residue_sums.specs.Grids.{entry}
 use Rattle.matrix_algebra.proofs.Triangles.{IsTriangle-view, structure_of}
 use Rattle.matrix_algebra.proofs.Places.{IsOrder-order_of}

@@ -1,4 +1,4 @@
-use Rattle.std.proofs.Common.{◌≡◌, ℕ, ◌+◌, ◌*◌, ◌<◌, sym, subst, ◌∙◌, arith}
+use Rattle.std.proofs.Common.{◌≡◌, ℕ, ◌+◌, ◌*◌, subst, ◌∙◌, arith}
 use Rattle.residue_sums.specs.Grids.{entry}
 use Rattle.matrix_parts.specs.Opers.{op_rows}
 use Rattle.matrix_parts.specs.Lent.{grid_of}

@@ -1,7 +1,7 @@
 use Rattle.std.proofs.Common.{◌≡◌, ℕ, ◌+◌, ◌<◌, ◌≤◌, ◌⊎◌, slice_index}
 use Rattle.residue_sums.specs.Grids.{entry}
 use Rattle.structure_rules.specs.Structures.{view}
-use Rattle.operand_lines.proofs.lines.write_line.Given as goal
+use Rattle.operand_lines.proofs.lines.view_line.Given as goal
 
 abbrev pub invariant-loop-k : goal.invariant-loop-k
 invariant-loop-k l = record {

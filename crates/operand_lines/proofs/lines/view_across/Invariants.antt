@@ -1,7 +1,7 @@
 use Rattle.std.proofs.Common.{◌≡◌, ◌≢◌, ℕ, ◌+◌, ◌*◌, ◌<◌, slice_index}
 use Rattle.residue_sums.specs.Grids.{entry}
 use Rattle.structure_rules.specs.Structures.{view}
-use Rattle.operand_lines.proofs.lines.write_across.Given as goal
+use Rattle.operand_lines.proofs.lines.view_across.Given as goal
 
 abbrev pub invariant-loop-g : goal.invariant-loop-g
 invariant-loop-g l = record {

@@ -2,7 +2,7 @@ use Rattle.std.proofs.Common.{◌+◌, ◌*◌, inl, inr, ◌∙◌, arith}
 use Rattle.std.proofs.lemmas.Bool.{cases_eq}
 use Rattle.std.proofs.lemmas.List.{get_or-set_same}
 use Rattle.operand_lines.proofs.PanelPlaces.{place_apart, line_before}
-use Rattle.operand_lines.proofs.lines.write_across.Goals as goal
+use Rattle.operand_lines.proofs.lines.view_across.Goals as goal
 
 pub loop-g-preserved : goal.loop-g-preserved
 loop-g-preserved c = record {
