@@ -37,7 +37,7 @@ some-marked marks (y ∷ ys) x h mark = elim (or_cases (x == y) (has_number ys x
 ]
 
 -- one more mark
-marked-set : (marks : List Bool) (y x : ℕ) → y < length marks → is_marked (set marks y true) x ≡ (x == y || is_marked marks x)
+pub marked-set : (marks : List Bool) (y x : ℕ) → y < length marks → is_marked (set marks y true) x ≡ (x == y || is_marked marks x)
 marked-set marks y x below = elim (cases_eq x y) [
   | inl same ↦ rw (eq-eqb x y same) (ap (λ (n : ℕ). is_marked (set marks y true) n) same ∙ get_or-set_same marks y true false below)
   | inr apart ↦ (let e : (x == y) ≡ false = grind (arith) in rw e (get_or-set_other marks y x true false apart))
@@ -124,55 +124,54 @@ AreMarks-none steps total = record {
   read_are = λ x below. ((λ h. absurd (false≢true (sym (get_or-replicate total x false false below) ∙ h))), (λ l. absurd (omega (arith, l.1))));
 }
 
-module _ (steps : List Step) (results : List StepResult) (r : StepResult) (n total : ℕ) (written read : List Bool) (marks : AreMarks steps results n total written read)
-    (count : length results ≡ n) where
-  -- of the first n + 1 steps, it is one of the first n, or the last
-  pub lost-before : (x : ℕ) → IsLost steps results n x → IsLost steps (results ++ r ∷ []) (suc n) x
-  lost-before x l = (l.0, omega (arith, l.1), subst IsStop (sym (result-before results r n count l.0 l.1)) l.2, l.3)
+-- other outcomes, of the same steps
+module _ (steps : List Step) (results others : List StepResult) (n m total : ℕ) (written read : List Bool) (marks : AreMarks steps results n total written read) where
+  -- a step among the first that failed or was skipped
+  abbrev Stopped : ℕ → Type 0
+  Stopped q = (q < n) × IsStop (nth_result results q)
 
-  read-before : (x : ℕ) → IsReadByStop steps results n x → IsReadByStop steps (results ++ r ∷ []) (suc n) x
-  read-before x l = (l.0, omega (arith, l.1), subst IsStop (sym (result-before results r n count l.0 l.1)) l.2, l.3)
+  abbrev NowStopped : ℕ → Type 0
+  NowStopped q = (q < m) × IsStop (nth_result others q)
 
-  pub lost-parts : (x : ℕ) → IsLost steps (results ++ r ∷ []) (suc n) x → IsLost steps results n x ⊎ (IsStop r × ((nth_access steps n).write ≡ x))
-  lost-parts x l = elim (cases_eq l.0 n) [
-    | inl same ↦ inr (subst IsStop (ap (nth_result (results ++ r ∷ [])) same ∙ result-last results r n count) l.2, ap (λ (q : ℕ). (nth_access steps q).write) (sym same) ∙ l.3)
-    | inr apart ↦ (let below : l.0 < n = omega (arith, l.1) in inl (l.0, below, subst IsStop (result-before results r n count l.0 below) l.2, l.3))
-  ]
-
-  read-parts : (x : ℕ) → IsReadByStop steps (results ++ r ∷ []) (suc n) x → IsReadByStop steps results n x ⊎ (IsStop r × IsTrue (has_number (nth_access steps n).reads x))
-  read-parts x l = elim (cases_eq l.0 n) [
-    | inl same ↦ inr (
-      subst IsStop (ap (nth_result (results ++ r ∷ [])) same ∙ result-last results r n count) l.2,
-      ap (λ (q : ℕ). has_number (nth_access steps q).reads x) (sym same) ∙ l.3,
-    )
-    | inr apart ↦ (let below : l.0 < n = omega (arith, l.1) in inl (l.0, below, subst IsStop (result-before results r n count l.0 below) l.2, l.3))
-  ]
-
-  -- a step that ran leaves them
-  pub AreMarks-ran : ¬ (IsStop r) → AreMarks steps (results ++ r ∷ []) (suc n) total written read
-  AreMarks-ran ran = record {
+  -- the same steps did
+  pub AreMarks-same : ((q : ℕ) → (q < n) × IsStop (nth_result results q) → (q < m) × IsStop (nth_result others q))
+      → ((q : ℕ) → (q < m) × IsStop (nth_result others q) → (q < n) × IsStop (nth_result results q)) → AreMarks steps others m total written read
+  AreMarks-same on back = record {
     written_count = marks.written_count;
     read_count = marks.read_count;
     written_are = λ x below. (
-      (λ h. lost-before x ((marks.written_are x below).0 h)),
-      (λ l. elim (lost-parts x l) [ inl before ↦ (marks.written_are x below).1 before | inr last ↦ absurd (ran last.0) ]),
+      (λ h. let l = (marks.written_are x below).0 h in let p = on l.0 (l.1, l.2) in (l.0, p.0, p.1, l.3)),
+      (λ l. let p = back l.0 (l.1, l.2) in (marks.written_are x below).1 (l.0, p.0, p.1, l.3)),
     );
     read_are = λ x below. (
-      (λ h. read-before x ((marks.read_are x below).0 h)),
-      (λ l. elim (read-parts x l) [ inl before ↦ (marks.read_are x below).1 before | inr last ↦ absurd (ran last.0) ]),
+      (λ h. let l = (marks.read_are x below).0 h in let p = on l.0 (l.1, l.2) in (l.0, p.0, p.1, l.3)),
+      (λ l. let p = back l.0 (l.1, l.2) in (marks.read_are x below).1 (l.0, p.0, p.1, l.3)),
     );
   }
 
-  -- any other marks what it uses
-  module _ (stop : IsStop r) (write : (nth_access steps n).write < total) (reads : All (λ x. x < total) (nth_access steps n).reads) where
+  -- step t did too, and marks what it uses
+  module _ (t : ℕ) (on : (q : ℕ) → Stopped q → NowStopped q) (here : NowStopped t) (back : (q : ℕ) → NowStopped q → Stopped q ⊎ (q ≡ t))
+      (write : (nth_access steps t).write < total) (reads : All (λ x. x < total) (nth_access steps t).reads) where
     abbrev a : Access
-    a = nth_access steps n
+    a = nth_access steps t
 
-    last-lost : (x : ℕ) → a.write ≡ x → IsLost steps (results ++ r ∷ []) (suc n) x
-    last-lost x e = (n, omega arith, subst IsStop (sym (result-last results r n count)) stop, e)
+    lost-on : (x : ℕ) → IsLost steps results n x → IsLost steps others m x
+    lost-on x l = let p = on l.0 (l.1, l.2) in (l.0, p.0, p.1, l.3)
 
-    last-read : (x : ℕ) → IsTrue (has_number a.reads x) → IsReadByStop steps (results ++ r ∷ []) (suc n) x
-    last-read x e = (n, omega arith, subst IsStop (sym (result-last results r n count)) stop, e)
+    read-on : (x : ℕ) → IsReadByStop steps results n x → IsReadByStop steps others m x
+    read-on x l = let p = on l.0 (l.1, l.2) in (l.0, p.0, p.1, l.3)
+
+    lost-back : (x : ℕ) → IsLost steps others m x → IsLost steps results n x ⊎ ((nth_access steps t).write ≡ x)
+    lost-back x l = elim (back l.0 (l.1, l.2)) [
+      | inl before ↦ inl (l.0, before.0, before.1, l.3)
+      | inr last ↦ inr (ap (λ (q : ℕ). (nth_access steps q).write) (sym last) ∙ l.3)
+    ]
+
+    read-back : (x : ℕ) → IsReadByStop steps others m x → IsReadByStop steps results n x ⊎ IsTrue (has_number (nth_access steps t).reads x)
+    read-back x l = elim (back l.0 (l.1, l.2)) [
+      | inl before ↦ inl (l.0, before.0, before.1, l.3)
+      | inr last ↦ inr (ap (λ (q : ℕ). has_number (nth_access steps q).reads x) (sym last) ∙ l.3)
+    ]
 
     write_in : a.write < length written
     write_in = omega (arith, marks.written_count, write)
@@ -180,28 +179,56 @@ module _ (steps : List Step) (results : List StepResult) (r : StepResult) (n tot
     reads_in : All (λ x. x < length read) a.reads
     reads_in = subst (λ (k : ℕ). All (λ x. x < k) a.reads) (sym marks.read_count) reads
 
-    pub AreMarks-marked : AreMarks steps (results ++ r ∷ []) (suc n) total (set written a.write true) (all_marked a.reads read)
-    AreMarks-marked = record {
+    pub AreMarks-with : AreMarks steps others m total (set written (nth_access steps t).write true) (all_marked (nth_access steps t).reads read)
+    AreMarks-with = record {
       written_count = length-set written a.write true ∙ marks.written_count;
       read_count = length-all_marked a.reads read ∙ marks.read_count;
       written_are = λ x below. (
         (λ h. elim (or_cases (x == a.write) (is_marked written x) (sym (marked-set written a.write x write_in) ∙ h)) [
-          | inl same ↦ last-lost x (sym (eqb-true x a.write same))
-          | inr before ↦ lost-before x ((marks.written_are x below).0 before)
+          | inl same ↦ (t, here.0, here.1, sym (eqb-true x a.write same))
+          | inr before ↦ lost-on x ((marks.written_are x below).0 before)
         ]),
-        (λ l. marked-set written a.write x write_in ∙ elim (lost-parts x l) [
+        (λ l. marked-set written a.write x write_in ∙ elim (lost-back x l) [
           | inl before ↦ or_right (x == a.write) (is_marked written x) ((marks.written_are x below).1 before)
-          | inr last ↦ or_left (x == a.write) (is_marked written x) (eq-eqb x a.write (sym last.1))
+          | inr last ↦ or_left (x == a.write) (is_marked written x) (eq-eqb x a.write (sym last))
         ]),
       );
       read_are = λ x below. (
         (λ h. elim (or_cases (has_number a.reads x) (is_marked read x) (sym (marked-all a.reads read x reads_in) ∙ h)) [
-          | inl same ↦ last-read x same
-          | inr before ↦ read-before x ((marks.read_are x below).0 before)
+          | inl same ↦ (t, here.0, here.1, same)
+          | inr before ↦ read-on x ((marks.read_are x below).0 before)
         ]),
-        (λ l. marked-all a.reads read x reads_in ∙ elim (read-parts x l) [
+        (λ l. marked-all a.reads read x reads_in ∙ elim (read-back x l) [
           | inl before ↦ or_right (has_number a.reads x) (is_marked read x) ((marks.read_are x below).1 before)
-          | inr last ↦ or_left (has_number a.reads x) (is_marked read x) last.1
+          | inr last ↦ or_left (has_number a.reads x) (is_marked read x) last
         ]),
       );
     }
+
+-- one step more
+module _ (steps : List Step) (results : List StepResult) (r : StepResult) (n total : ℕ) (written read : List Bool) (marks : AreMarks steps results n total written read)
+    (count : length results ≡ n) where
+  stop-before : (q : ℕ) → (q < n) × IsStop (nth_result results q) → (q < suc n) × IsStop (nth_result (results ++ r ∷ []) q)
+  stop-before q s = (omega (arith, s.0), subst IsStop (sym (result-before results r n count q s.0)) s.1)
+
+  -- of the first n + 1 steps, it is one of the first n, or the last
+  stop-parts : (q : ℕ) → (q < suc n) × IsStop (nth_result (results ++ r ∷ []) q) → ((q < n) × IsStop (nth_result results q)) ⊎ ((q ≡ n) × IsStop r)
+  stop-parts q s = elim (cases_eq q n) [
+    | inl same ↦ inr (same, subst IsStop (ap (nth_result (results ++ r ∷ [])) same ∙ result-last results r n count) s.1)
+    | inr apart ↦ (let below : q < n = omega (arith, s.0) in inl (below, subst IsStop (result-before results r n count q below) s.1))
+  ]
+
+  pub lost-before : (x : ℕ) → IsLost steps results n x → IsLost steps (results ++ r ∷ []) (suc n) x
+  lost-before x l = let p = stop-before l.0 (l.1, l.2) in (l.0, p.0, p.1, l.3)
+
+  -- a step that ran leaves them
+  pub AreMarks-ran : ¬ (IsStop r) → AreMarks steps (results ++ r ∷ []) (suc n) total written read
+  AreMarks-ran ran = AreMarks-same steps results (results ++ r ∷ []) n (suc n) total written read marks stop-before
+      (λ q s. elim (stop-parts q s) [ inl before ↦ before | inr last ↦ absurd (ran last.1) ])
+
+  -- any other marks what it uses
+  pub AreMarks-marked : IsStop r → (nth_access steps n).write < total → All (λ x. x < total) (nth_access steps n).reads
+      → AreMarks steps (results ++ r ∷ []) (suc n) total (set written (nth_access steps n).write true) (all_marked (nth_access steps n).reads read)
+  AreMarks-marked stop write reads = AreMarks-with steps results (results ++ r ∷ []) n (suc n) total written read marks n stop-before
+      (omega arith, subst IsStop (sym (result-last results r n count)) stop)
+      (λ q s. elim (stop-parts q s) [ inl before ↦ inl before | inr last ↦ inr last.0 ]) write reads

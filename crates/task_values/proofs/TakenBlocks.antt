@@ -28,6 +28,21 @@ pub room-kept : (n : ℕ) (new old : List ℕ) (b : ℕ) → n ≡ length old �
 room-kept n new old b count enough =
     omega (arith, count, enough, length-take n (new ++ drop (length new) old), length-append new (drop (length new) old), length-drop (length new) old)
 
+-- what a step finds with any block in the place of its own, code finds with the block that it put there
+pub next-read : (r : Run) (is : IsRun r) (n : ℕ) (within : n < length r.steps.now) (results : List StepResult) (blocks : List Grid)
+    → (nth_access r.steps.now n).write < length blocks
+    → ((e : Grid) → AreResidues r.job.now.modulus e → IsNext r results n (set blocks (nth_access r.steps.now n).write e) (nth_grid blocks (nth_access r.steps.now n).write))
+    → (d : Step) (none dest block lent : Grid) (stored : List Grid) → none ≡ record { rows = 0; cols = 0; entries = [] } → dest ≡ none → block ≡ lent
+    → lent ≡ get_or blocks (get_or r.steps.now n d).access.write lent → stored ≡ set blocks (get_or r.steps.now n d).access.write dest
+    → IsNext r results n stored block
+next-read r is n within results blocks w_in taken d none dest block lent stored none_is dest_is block_is lent_is stored_is =
+    let step = step_read r is n within d in
+    let w : ℕ = (nth_access r.steps.now n).write in
+    let own : lent ≡ nth_grid blocks w = get_or_read blocks w lent w_in (subst (λ (t : Step). lent ≡ get_or blocks t.access.write lent) step lent_is) no_grid in
+    let left : stored ≡ set blocks w dest = stored_is ∙ ap (λ (t : Step). set blocks t.access.write dest) step in
+    subst (λ (p : List Grid × Grid). IsNext r results n p.0 p.1) (λ k. (sym left k, sym (block_is ∙ own) k))
+    (taken dest (no_block-residues r.job.now.modulus none dest none_is dest_is))
+
 module _ (r : Run) (is : IsRun r) (n : ℕ) (within : n < length r.steps.now) (results : List StepResult) (s : Store) (held : IsHeldAfter r results n s) where
   abbrev w : ℕ
   w = (nth_access r.steps.now n).write
@@ -78,9 +93,4 @@ module _ (r : Run) (is : IsRun r) (n : ℕ) (within : n < length r.steps.now) (r
         → lent ≡ get_or s.blocks.items (get_or r.steps.now n d).access.write lent → stored ≡ set s.blocks.items (get_or r.steps.now n d).access.write dest
         → IsNext r results n stored block
     next-there d none dest block lent stored none_is dest_is block_is lent_is stored_is =
-        let step = step_read r is n within d in
-        let own : lent ≡ nth_grid s.blocks.items w
-        = get_or_read s.blocks.items w lent (write_stored r is n within results s held) (subst (λ (t : Step). lent ≡ get_or s.blocks.items t.access.write lent) step lent_is) no_grid in
-        let left : stored ≡ set s.blocks.items w dest = stored_is ∙ ap (λ (t : Step). set s.blocks.items t.access.write dest) step in
-        subst (λ (p : List Grid × Grid). IsNext r results n p.0 p.1) (λ k. (sym left k, sym (block_is ∙ own) k))
-        (taken dest (no_block-residues r.job.now.modulus none dest none_is dest_is))
+        next-read r is n within results s.blocks.items (write_stored r is n within results s held) taken d none dest block lent stored none_is dest_is block_is lent_is stored_is

@@ -14,8 +14,8 @@ use job_blocks::JobBlocks;
 use std::alloc::{AllocError, Global};
 use step_replays::StepList;
 
-/// What a run came to, once all its steps were gone through.
-fn outcome(
+/// What a run came to, once all its steps were gone through. Its one error is want of memory.
+pub fn outcome_of(
     alloc: Global,
     blocks: &JobBlocks<'_>,
     run: &Run<'_>,
@@ -66,5 +66,5 @@ pub fn replay(alloc: Global, job: &Job, b: u32, steps: &StepList) -> Result<Outc
         steps: steps.as_slice(),
     };
     let store = run_steps(alloc, &blocks, &run)?;
-    outcome(alloc, &blocks, &run, store)
+    outcome_of(alloc, &blocks, &run, store)
 }

@@ -1,7 +1,6 @@
 //! One step of a run, done by its kernel on the block that it writes.
 
-ghost use Rattle.std.specs.Prelude.{◌≡◌, ◌<◌, ◌≤◌, ◌^◌, length, MatchResult, None, Some};
-ghost use Rattle.residue_sums.specs.Grids.{Grid};
+ghost use Rattle.std.specs.Prelude.{◌≡◌, ◌<◌, ◌≤◌, ◌^◌, length, MatchOption};
 ghost use Rattle.block_kernels.specs.Outcomes.{IsOutcome};
 ghost use Rattle.block_kernels.specs.PivotLists.{AreInverted, CanInvert};
 ghost use Rattle.block_kernels.specs.Ready.{CanApply};
@@ -21,6 +20,14 @@ pub struct Run<'a> {
     pub job: &'a Job,
     pub b: u32,
     pub steps: &'a [Step],
+}
+
+/// What a step that was done leaves of the block that it writes, and the bad pivot that it met, if it met one. What is left by
+/// a step that met one is of no use but for its shape.
+#[derive(Drop)]
+pub struct DoneStep {
+    pub block: Matrix,
+    pub bad: Option<Place>,
 }
 
 impl Run<'_> {
@@ -50,20 +57,16 @@ impl Run<'_> {
         }
     }
 
-    /// Does step n, the next one, with the blocks of a store, on the block that it writes: answers the block that it leaves, or
-    /// the bad pivot that it meets. The room is for b numbers.
-    pub fn done(
-        &self,
-        n: usize,
-        store: &[Matrix],
-        block: Matrix,
-        room: &mut [u64],
-    ) -> Result<Matrix, Place>
+    /// Does step n, the next one, with the blocks of a store, on the block that it writes. The room is for b numbers.
+    pub fn done(&self, n: usize, store: &[Matrix], block: Matrix, room: &mut [u64]) -> DoneStep
         requires run { IsRun self.now }
         requires ready { IsReady self.now n store.now block }
         requires room { self.now.b ≤ length room.old }
-        ensures { MatchResult result
-            (Leaves self.now n store.now block) (Fails self.now n store.now block) }
+        ensures outcome { MatchOption result.bad
+            (Leaves self.now n store.now block result.block) (Fails self.now n store.now block) }
+        ensures rows { result.block.rows ≡ block.rows }
+        ensures cols { result.block.cols ≡ block.cols }
+        ensures count { length result.block.entries ≡ length block.entries }
     {
         let task = self.task(n, store);
         match task.task.kind {
@@ -73,13 +76,14 @@ impl Run<'_> {
     }
 }
 
-/// What a block task makes of the block that it changes, or its first bad pivot.
-fn block_done(task: &BlockTask<'_>, block: Matrix, room: &mut [u64]) -> Result<Matrix, Place>
+/// What a block task makes of the block that it changes, and its first bad pivot.
+fn block_done(task: &BlockTask<'_>, block: Matrix, room: &mut [u64]) -> DoneStep
     requires can { CanApply task.now block }
     requires room { task.now.b ≤ length room.old }
-    ensures { MatchResult result
-        (λ new. IsOutcome task.now block new None)
-        (λ place. (new : Grid) × IsOutcome task.now block new (Some place)) }
+    ensures outcome { IsOutcome task.now block result.block result.bad }
+    ensures rows { result.block.rows ≡ block.rows }
+    ensures cols { result.block.cols ≡ block.cols }
+    ensures count { length result.block.entries ≡ length block.entries }
 {
     let mut changed = block;
     let (rows, cols) = (changed.rows(), changed.cols());
@@ -87,18 +91,19 @@ fn block_done(task: &BlockTask<'_>, block: Matrix, room: &mut [u64]) -> Result<M
     let mut w = whole_of(entries, rows, cols);
     let bad = task.apply(&mut w, room);
     let _ = entries.len();
-    match bad {
-        None => Ok(changed),
-        Some(place) => Err(place),
+    DoneStep {
+        block: changed,
+        bad,
     }
 }
 
-/// The list of the inverses of a statement's pivots, written over what was there, or the first pivot that has none.
-fn list_done(task: &BlockTask<'_>, list: Matrix) -> Result<Matrix, Place>
+/// The list of the inverses of a statement's pivots, written over what was there, and the first pivot that has none.
+fn list_done(task: &BlockTask<'_>, list: Matrix) -> DoneStep
     requires { CanInvert task.now list }
-    ensures { MatchResult result
-        (λ new. AreInverted task.now list new None)
-        (λ place. (new : Grid) × AreInverted task.now list new (Some place)) }
+    ensures outcome { AreInverted task.now list result.block result.bad }
+    ensures rows { result.block.rows ≡ list.rows }
+    ensures cols { result.block.cols ≡ list.cols }
+    ensures count { length result.block.entries ≡ length list.entries }
 {
     let mut inverses = list;
     let (rows, cols) = (inverses.rows(), inverses.cols());
@@ -106,8 +111,8 @@ fn list_done(task: &BlockTask<'_>, list: Matrix) -> Result<Matrix, Place>
     let mut w = whole_of(entries, rows, cols);
     let bad = task.write_pivots(&mut w);
     let _ = entries.len();
-    match bad {
-        None => Ok(inverses),
-        Some(place) => Err(place),
+    DoneStep {
+        block: inverses,
+        bad,
     }
 }

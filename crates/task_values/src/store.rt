@@ -25,7 +25,7 @@ pub struct Store {
 }
 
 /// A matrix of nothing.
-fn no_block(alloc: Global) -> Matrix
+pub fn no_block(alloc: Global) -> Matrix
     ensures { result ≡ record { rows = 0; cols = 0; entries = [] } }
 {
     Matrix::from_entries(0, 0, Vec::new(alloc))
@@ -80,11 +80,12 @@ impl Store {
         let step = &run.steps[n];
         let write = step.access.write as usize;
         let block = mem::replace(&mut self.blocks[write], no_block(alloc));
-        match run.done(n, self.blocks.as_slice(), block, self.room.as_mut_slice()) {
-            Ok(new) => {
-                self.blocks[write] = new;
+        let done = run.done(n, self.blocks.as_slice(), block, self.room.as_mut_slice());
+        match done.bad {
+            None => {
+                self.blocks[write] = done.block;
             }
-            Err(place) => self.fail(step, place),
+            Some(place) => self.fail(step, place),
         }
     }
 

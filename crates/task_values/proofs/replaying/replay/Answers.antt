@@ -8,12 +8,12 @@ use Rattle.task_values.proofs.replaying.replay.Goals as goal
 
 pub returns-clause-meaning : goal.returns-clause-meaning
 returns-clause-meaning c =
-    let steps = subst (λ (l : List Step). IfOk c.outcome.result (IsReplayOutcome c.args.job.now c.args.b l)) c.as_slice.ensures c.outcome.ensures in
-    IfOk-weaker c.outcome.result _ _
+    let steps = subst (λ (l : List Step). IfOk c.outcome_of.result (IsReplayOutcome c.args.job.now c.args.b l)) c.as_slice.ensures c.outcome_of.ensures in
+    IfOk-weaker c.outcome_of.result _ _
     (λ o is. outcome-means c.args.job.now c.args.b c.args.steps.now c.requires.size c.requires.job c.requires.fit o is) steps
 
 pub returns-clause-only : goal.returns-clause-only
 returns-clause-only c =
-    let steps = subst (λ (l : List Step). IfOk c.outcome.result (IsReplayOutcome c.args.job.now c.args.b l)) c.as_slice.ensures c.outcome.ensures in
-    IfOk-weaker c.outcome.result _ _
+    let steps = subst (λ (l : List Step). IfOk c.outcome_of.result (IsReplayOutcome c.args.job.now c.args.b l)) c.as_slice.ensures c.outcome_of.ensures in
+    IfOk-weaker c.outcome_of.result _ _
     (λ o is. only-meaning c.args.job.now c.requires.job o (outcome-means c.args.job.now c.args.b c.args.steps.now c.requires.size c.requires.job c.requires.fit o is)) steps

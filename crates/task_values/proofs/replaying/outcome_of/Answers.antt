@@ -3,7 +3,7 @@ use Rattle.job_blocks.specs.BlockedJobs.{BlockedJob, HaveBlockShapes, gathered_m
 use Rattle.step_replays.proofs.FrontLaws.{front-whole}
 use Rattle.task_values.specs.Progress.{IsNoted}
 use Rattle.task_values.proofs.Finals.{have-shapes, is-failure, matrices-are}
-use Rattle.task_values.proofs.replaying.outcome.Goals as goal
+use Rattle.task_values.proofs.replaying.outcome_of.Goals as goal
 
 pub gathered-requires : goal.gathered-requires
 gathered-requires c =
