@@ -1,3 +1,6 @@
 pub mod FamilyTexts
+pub mod NumberLines
 pub mod ResultTexts
+pub mod SummaryTexts
 pub mod TaskTexts
+pub mod TraceTexts

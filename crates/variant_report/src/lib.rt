@@ -1,10 +1,23 @@
 //! What the program prints: of a family each loop variant on a line, with its split, its directions and the tasks
-//! of its invariant; of a run the matrices that the job prints.
+//! of its invariant; of a run the matrices that the job prints; of its trace the steps, the direct edges between
+//! them and a schedule; of a run of a generated job a summary, the sums of the printed matrices' entries.
 #![tactic(auto)]
 
 mod families;
+mod number_lines;
+mod orders;
 mod results;
+mod self_words;
+mod summaries;
 mod tasks;
+mod traces;
 
 pub use families::write_family;
+pub use orders::ordered_events;
 pub use results::write_result;
+pub use self_words::SelfWords;
+pub use summaries::write_summary;
+pub use traces::write_trace;
+
+#[cfg(test)]
+mod tests;

@@ -14,7 +14,7 @@ fn digit(n: u32) -> u8
 }
 
 /// Appends a number.
-fn put_number(n: u32, out: &mut Vec<u8>) -> Result<(), AllocError>
+pub fn put_number(n: u32, out: &mut Vec<u8>) -> Result<(), AllocError>
     ensures { OnOk result (out.new.items ≡ out.old.items ++ decimal n) }
 {
     if n < 10 {
@@ -57,7 +57,7 @@ fn put_triple(i: u32, j: u32, k: u32, out: &mut Vec<u8>) -> Result<(), AllocErro
 }
 
 /// Appends the text of a task, as `left(1,1,0)`.
-fn put_task(task: Task, out: &mut Vec<u8>) -> Result<(), AllocError>
+pub fn put_task(task: Task, out: &mut Vec<u8>) -> Result<(), AllocError>
     ensures { OnOk result (out.new.items ≡ out.old.items ++ task_text task) }
 {
     match task.kind {

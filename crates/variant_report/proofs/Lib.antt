@@ -1,0 +1,3 @@
+mod PlacedTexts
+mod SmallJobs
+mod WorkedTexts
