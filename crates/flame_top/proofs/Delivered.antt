@@ -15,25 +15,26 @@ pub some_input : (left : Option (List ℕ)) → (input : List ℕ) × Tells left
 some_input None = ([], tt)
 some_input (Some left) = (left, refl)
 
+-- a delivery answers its status or 6
+pub delivered_no_other : (status : ℕ) (text : List ℕ) (sink sink_after : StreamState) (result : ℕ) → Delivers status text sink sink_after result
+    → (n : ℕ) → n ≢ 6 → status ≢ n → result ≢ n
+delivered_no_other status text sink sink_after result delivered n not_six not_status is = elim (cases_eq result 6) [
+  | inl six ↦ not_six (sym is ∙ six)
+  | inr not ↦ not_status (sym (delivered.whole not).0 ∙ is)
+]
+
 -- an output that is due is delivered
 module _ (due : DueRelation) (source source_after sink sink_after : StreamState) (status : ℕ) (text : List ℕ) (result : ℕ)
     (due_status : IsDueStatus status) (is_due : DueFrom due source.bytes status text) (quiet : source_after.faults ≡ source.faults)
     (taken : (front : List ℕ) × Consumes source.bytes source_after.bytes front)
     (delivered : Delivers status text sink sink_after result) where
-  -- a delivery answers its status or 6
-  no_other : (n : ℕ) → n ≢ 6 → status ≢ n → result ≢ n
-  no_other n not_six not_status is = elim (cases_eq result 6) [
-    | inl six ↦ not_six (sym is ∙ six)
-    | inr not ↦ not_status (sym (delivered.whole not).0 ∙ is)
-  ]
-
   pub answers_from_Delivers : Answers due source source_after sink sink_after result
   answers_from_Delivers = record {
     whole = λ is. (text, rw (delivered.whole is.2).0 is_due, (delivered.whole is.2).1);
     source_quiet = λ not. quiet;
     sink_quiet = λ not. (delivered.whole not).2;
     taken = taken;
-    read_fault = λ is. absurd (no_other 1 (λ e. omega arith) due_status.0 is);
+    read_fault = λ is. absurd (delivered_no_other status text sink sink_after result delivered 1 (λ e. omega arith) due_status.0 is);
     write_fault = λ is. (delivered.front is).0;
     front = λ is. (status, text, is_due, (delivered.front is).1);
   }

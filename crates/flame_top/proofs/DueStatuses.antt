@@ -2,15 +2,23 @@
 use Rattle.std.proofs.Common.{◌≡◌, inl, inr, ℕ, List, refl, arith}
 use Rattle.std.specs.Prelude.{codes}
 use Rattle.equation.specs.declared.job.Job.{Job}
-use Rattle.flame_top.specs.declared.command.Command.{Command}
-use Rattle.flame_top.specs.declared.command.Command.TheVariants.{Derive, Run, Verify}
-use Rattle.flame_top.specs.Words.{AreBad}
+use Rattle.issue_list.specs.declared.choice.Choice.{Choice}
+use Rattle.issue_list.specs.declared.choice.Choice.TheVariants.{First}
+use Rattle.variant_report.specs.declared.self_words.SelfWords.{SelfWords}
+use Rattle.command_words.specs.declared.command.Command.{Command}
+use Rattle.command_words.specs.declared.command.Command.TheVariants.{Derive, Make, Run, SelfRun, Verify}
+use Rattle.command_words.specs.declared.command.RunWords.{RunWords}
+use Rattle.command_words.specs.Words.{AreBad}
 use Rattle.flame_top.specs.Derive.{DueFamilies}
 use Rattle.flame_top.specs.Due.{Due, DueCommand, DueInput}
 use Rattle.flame_top.specs.DueTexts.{DueShort}
-use Rattle.flame_top.specs.Run.{DueRun}
+use Rattle.flame_top.specs.Meaning.{DueMeaning, PrintedText}
+use Rattle.flame_top.specs.Run.{DueRun, run_text}
+use Rattle.flame_top.specs.SelfRun.{DueSelfRun, job_of, self_text}
+use Rattle.flame_top.specs.Steps.{DueBySteps}
 use Rattle.flame_top.specs.Verify.{DueVerify}
 use Rattle.flame_top.specs.Answers.{IsDueStatus}
+use Rattle.flame_top.proofs.StepsLaws.{refused_status}
 
 zero_is_due : (status : ℕ) → status ≡ 0 → IsDueStatus status
 zero_is_due status is = (λ e. omega arith, λ e. omega arith, λ e. omega arith)
@@ -33,11 +41,20 @@ short_is_due due of_job input status text (inr fault) = refusal_is_due status fa
 families_are_due : (job : Job) (status : ℕ) (text : List ℕ) → DueFamilies job status text → IsDueStatus status
 families_are_due job status text families = zero_is_due status families.0
 
-run_is_due : (b : ℕ) (job : Job) (status : ℕ) (text : List ℕ) → DueRun b job status text → IsDueStatus status
-run_is_due b job status text (inl long) = refusal_is_due status long.3.0
-run_is_due b job status text (inr (inl many)) = refusal_is_due status many.2.0
-run_is_due b job status text (inr (inr (few, steps, inl result))) = zero_is_due status result.2.0
-run_is_due b job status text (inr (inr (few, steps, inr bad))) = bad_pivot_is_due status bad.3.0
+meaning_is_due : (job : Job) (printed : PrintedText) (status : ℕ) (text : List ℕ) → DueMeaning job printed status text → IsDueStatus status
+meaning_is_due job printed status text (inl result) = zero_is_due status result.2.0
+meaning_is_due job printed status text (inr bad) = bad_pivot_is_due status bad.3.0
+
+by_steps_is_due : (b : ℕ) (choice : Choice) (job : Job) (printed : PrintedText) (status : ℕ) (text : List ℕ)
+    → DueBySteps b choice job (DueMeaning job printed) status text → IsDueStatus status
+by_steps_is_due b choice job printed status text (inl refused) = refusal_is_due status (refused_status b choice job status text refused)
+by_steps_is_due b choice job printed status text (inr listed) = meaning_is_due job printed status text listed.1
+
+run_is_due : (words : RunWords) (job : Job) (status : ℕ) (text : List ℕ) → DueRun words job status text → IsDueStatus status
+run_is_due words job = by_steps_is_due words.block words.choice job (run_text words job)
+
+selfrun_is_due : (words : SelfWords) (status : ℕ) (text : List ℕ) → DueSelfRun words status text → IsDueStatus status
+selfrun_is_due words = by_steps_is_due words.block First (job_of words) (self_text words (job_of words))
 
 verify_is_due : (input : List ℕ) (status : ℕ) (text : List ℕ) → DueVerify input status text → IsDueStatus status
 verify_is_due input status text (inl (job, rest, spells, inl (after, spelled, inl all))) = zero_is_due status all.1
@@ -48,10 +65,12 @@ verify_is_due input status text (inr fault) = refusal_is_due status fault.3
 input_is_due : (command : Command) (input : List ℕ) (status : ℕ) (text : List ℕ) → DueInput command input status text → IsDueStatus status
 input_is_due Derive input status text due = short_is_due DueFamilies families_are_due input status text due
 input_is_due Verify input status text due = verify_is_due input status text due
-input_is_due (Run words) input status text due = short_is_due (DueRun words.block) (run_is_due words.block) input status text due
+input_is_due (Make n m seed) input status text due = zero_is_due status due.0
+input_is_due (Run words) input status text due = short_is_due (DueRun words) (run_is_due words) input status text due
+input_is_due (SelfRun words) input status text due = selfrun_is_due words status text due
 
 pub command_is_due : (command : Command) (input : List ℕ) (status : ℕ) (text : List ℕ) → DueCommand command input status text → IsDueStatus status
-command_is_due command input status text (inl long) = refusal_is_due status long.1.0
+command_is_due command input status text (inl long) = refusal_is_due status long.2.0
 command_is_due command input status text (inr short) = input_is_due command input status text short.1
 
 -- what is due for bad words

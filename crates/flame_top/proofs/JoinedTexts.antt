@@ -10,3 +10,12 @@ joined_numbers out a x b y c z end one two three all first second third last = r
 pub joined_name : (out a x b name end one two three all : List ℕ) → one ≡ out ++ (a ++ x) → two ≡ one ++ b → three ≡ two ++ name → all ≡ three ++ end
     → all ≡ out ++ (a ++ x ++ b ++ name ++ end)
 joined_name out a x b name end one two three all first second third last = rw (last, third, second, first) (simp append_assoc refl)
+
+-- a word with a number behind it, and an end
+pub joined_number : (out a x end one all : List ℕ) → one ≡ out ++ (a ++ x) → all ≡ one ++ end → all ≡ out ++ (a ++ x ++ end)
+joined_number out a x end one all first last = rw (last, first) (simp append_assoc refl)
+
+-- a word and a number, a word with a number behind it, and an end
+pub joined_counts : (out a x b y end one two three all : List ℕ) → one ≡ out ++ a → two ≡ one ++ x → three ≡ two ++ (b ++ y) → all ≡ three ++ end
+    → all ≡ out ++ (a ++ x ++ b ++ y ++ end)
+joined_counts out a x b y end one two three all first second third last = rw (last, third, second, first) (simp append_assoc refl)

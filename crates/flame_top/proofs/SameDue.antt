@@ -1,5 +1,5 @@
 -- Two statuses and texts that are the same.
-use Rattle.std.proofs.Common.{◌≡◌, ℕ, List, sym, ◌∙◌}
+use Rattle.std.proofs.Common.{◌≡◌, inl, inr, ◌⊎◌, ℕ, List, sym, ◌∙◌}
 use Rattle.flame_top.specs.DueTexts.{Says}
 
 -- one status and one text
@@ -8,3 +8,20 @@ Same status other text different = (status ≡ other) × (text ≡ different)
 
 pub same_says : (due_status : ℕ) (due_text : List ℕ) (status other : ℕ) (text different : List ℕ) → Says due_status due_text status text → Says due_status due_text other different → Same status other text different
 same_says due_status due_text status other text different says says_other = (says.0 ∙ sym says_other.0, says.1 ∙ sym says_other.1)
+
+-- what is due is one status and one text
+abbrev pub IsDetermined : (ℕ → List ℕ → Type 0) → Type 0
+IsDetermined due = (status other : ℕ) (text different : List ℕ) → due status text → due other different → Same status other text different
+
+-- two things that are due, of which only one can be
+module _ (due later : ℕ → List ℕ → Type 0) (one : IsDetermined due) (one_later : IsDetermined later)
+    (apart : (status other : ℕ) (text different : List ℕ) → due status text → later other different → ⊥) where
+  pub same_either : IsDetermined (λ status text. due status text ⊎ later status text)
+  same_either status other text different (inl a) (inl b) = one status other text different a b
+  same_either status other text different (inl a) (inr b) = absurd (apart status other text different a b)
+  same_either status other text different (inr a) (inl b) = absurd (apart other status different text b a)
+  same_either status other text different (inr a) (inr b) = one_later status other text different a b
+
+-- some status and some text are due
+abbrev pub IsSomeDue : (ℕ → List ℕ → Type 0) → Type 0
+IsSomeDue due = (status : ℕ) × (text : List ℕ) × due status text

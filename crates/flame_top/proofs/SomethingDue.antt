@@ -12,21 +12,22 @@ use Rattle.job_text.specs.Sections.{text_fault}
 use Rattle.job_text.specs.SpelledJobs.{Spells, job_in}
 use Rattle.job_text.proofs.JobKinds.{want_of_memory_none}
 use Rattle.job_text.proofs.JobTaken.{read_job_spelled}
-use Rattle.flame_top.specs.declared.command.Command.{Command}
-use Rattle.flame_top.specs.declared.command.Command.TheVariants.{Derive, Run, Verify}
+use Rattle.job_text.specs.JobTexts.{job_text}
+use Rattle.job_generator.specs.GeneratedJobs.{generated_job}
+use Rattle.command_words.specs.declared.command.Command.{Command}
+use Rattle.command_words.specs.declared.command.Command.TheVariants.{Derive, Make, Run, SelfRun, Verify}
+use Rattle.command_words.specs.Words.{AreBad, AreWordsOf, IsInRange, ReadsInput}
+use Rattle.command_words.proofs.CommandWords.{bad_or_named}
 use Rattle.flame_top.specs.Refusals.{refusal_text}
-use Rattle.flame_top.specs.Words.{AreBad, AreWordsOf}
 use Rattle.flame_top.specs.Derive.{DueFamilies, families_text}
 use Rattle.flame_top.specs.Due.{DueInput, DueCommand, Due, input_limit}
 use Rattle.flame_top.specs.DueTexts.{DueShort}
 use Rattle.flame_top.specs.Run.{DueRun}
-use Rattle.flame_top.proofs.NamedCommands.{bad_or_named}
+use Rattle.flame_top.proofs.ReadingCommands.{reads_or_not}
 use Rattle.flame_top.proofs.RunLaws.{some_run}
+use Rattle.flame_top.proofs.SameDue.{IsSomeDue}
+use Rattle.flame_top.proofs.SelfRunLaws.{some_selfrun}
 use Rattle.flame_top.proofs.VerifyLaws.{of_the_text, some_verify}
-
--- a status and a text are due
-abbrev IsSomeDue : (ℕ → List ℕ → Type 0) → Type 0
-IsSomeDue due = (status : ℕ) × (text : List ℕ) × due status text
 
 -- ---- for a job
 
@@ -47,21 +48,32 @@ some_short due some_job input = go (job_in Nothing input) refl
         let is : text_fault fault ≡ Some fault = of_the_text fault (λ (memory : fault ≡ Memory). want_of_memory_none Nothing input (e ∙ ap Err memory)) in
         (3, refusal_text fault, inr (fault, is, e, (refl, refl)))
 
-some_input : (command : Command) (input : List ℕ) → IsSomeDue (DueInput command input)
-some_input Derive input = some_short DueFamilies (λ job valid. some_families job) input
-some_input Verify input = some_verify input
-some_input (Run numbers) input = some_short (DueRun numbers.block) (some_run numbers.block) input
+some_input : (command : Command) → IsInRange command → (input : List ℕ) → IsSomeDue (DueInput command input)
+some_input Derive range input = some_short DueFamilies (λ job valid. some_families job) input
+some_input Verify range input = some_verify input
+some_input (Make n m seed) range input = (0, job_text (generated_job n m seed), (refl, refl))
+some_input (Run words) range input = some_short (DueRun words) (some_run words) input
+some_input (SelfRun words) range input = some_selfrun words range
 
-some_command : (command : Command) (input : List ℕ) → IsSomeDue (DueCommand command input)
-some_command command input = go (cases_lt input_limit (length input))
+-- a command reads an input that is too long, or not
+long_or_not : (command : Command) (input : List ℕ) → (ReadsInput command × (input_limit < length input)) ⊎ (ReadsInput command → length input ≤ input_limit)
+long_or_not command input = go (reads_or_not command) (cases_lt input_limit (length input))
   where
-    go : (input_limit < length input) ⊎ (length input ≤ input_limit) → IsSomeDue (DueCommand command input)
-    go (inl long) = (3, codes "refused TooLong\n", inl (long, (refl, refl)))
-    go (inr short) = let due = some_input command input in (due.0, due.1, inr (short, due.2))
+    go : ReadsInput command ⊎ ¬ (ReadsInput command) → (input_limit < length input) ⊎ (length input ≤ input_limit)
+        → (ReadsInput command × (input_limit < length input)) ⊎ (ReadsInput command → length input ≤ input_limit)
+    go (inl reads) (inl long) = inl (reads, long)
+    go (inr not) (inl long) = inr (λ reads. absurd (not reads))
+    go reads (inr short) = inr (λ reads. short)
 
-pub some_due : (words : List (List ℕ)) (input : List ℕ) → (status : ℕ) × (text : List ℕ) × Due words input status text
+some_command : (command : Command) → IsInRange command → (input : List ℕ) → IsSomeDue (DueCommand command input)
+some_command command range input = elim (long_or_not command input) [
+  | inl long ↦ (3, codes "refused TooLong\n", inl (long.0, long.1, (refl, refl)))
+  | inr short ↦ (let due = some_input command range input in (due.0, due.1, inr (short, due.2)))
+]
+
+pub some_due : (words : List (List ℕ)) (input : List ℕ) → IsSomeDue (Due words input)
 some_due words input = go (bad_or_named words)
   where
     go : AreBad words ⊎ ((command : Command) × AreWordsOf words command) → IsSomeDue (Due words input)
     go (inl bad) = (2, codes "bad words\n", inl (bad, (refl, refl)))
-    go (inr named) = let due = some_command named.0 input in (due.0, due.1, inr (named.0, named.1, due.2))
+    go (inr named) = let due = some_command named.0 named.1.0 input in (due.0, due.1, inr (named.0, named.1, due.2))

@@ -9,14 +9,8 @@ use Rattle.operation_spec.proofs.WorkedOperations.{lu, low}
 use Rattle.invariant_family.specs.Families.{family_of}
 use Rattle.variant_report.specs.FamilyTexts.{variant_lines}
 use Rattle.job_text.specs.declared.fault.JobFault.TheVariants as faults
-use Rattle.flame_top.specs.declared.command.Command.TheVariants.{Run}
 use Rattle.flame_top.specs.Derive.{families_text}
-use Rattle.flame_top.specs.Refusals.{bad_pivot_text, refusal_text, too_many_parts_text}
-use Rattle.flame_top.specs.Words.{words_of}
-
-spelled_words : words_of (Run (record { block = 1024; workers = 1 })) ≡ codes "run" ∷ codes "--block" ∷ codes "1024" ∷ codes "--workers" ∷ codes "1" ∷ []
-unfolding digits
-spelled_words = refl
+use Rattle.flame_top.specs.Refusals.{bad_pivot_text, no_variant_text, refusal_text, too_many_parts_text, variant_count_text}
 
 refused_line : refusal_text (faults.Alias 13) ≡ codes "refused Alias line 13\n"
 unfolding digits
@@ -29,6 +23,14 @@ named_pivot = refl
 named_dimension : too_many_parts_text 2 (codes "rows") ≡ codes "refused TooManyParts statement 2 dimension rows\n"
 unfolding digits
 named_dimension = refl
+
+named_counts : variant_count_text 2 1 ≡ codes "refused VariantCount given 2 due 1\n"
+unfolding digits
+named_counts = refl
+
+named_statement : no_variant_text 12 ≡ codes "refused NoVariant statement 12\n"
+unfolding digits
+named_statement = refl
 
 -- `X = W` of general matrices, whose loops have one task for each block and nothing to do
 same : Operation

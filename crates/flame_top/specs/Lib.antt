@@ -2,7 +2,11 @@ pub mod Answers
 pub mod Derive
 pub mod Due
 pub mod DueTexts
+pub mod Listings
+pub mod Make
+pub mod Meaning
 pub mod Refusals
 pub mod Run
+pub mod SelfRun
+pub mod Steps
 pub mod Verify
-pub mod Words

@@ -28,6 +28,14 @@ refusal_text (EntryRange line) = kind_at (codes "EntryRange") line
 refusal_text (Binding line) = kind_at (codes "Binding") line
 refusal_text (Alias line) = kind_at (codes "Alias") line
 
+-- numbers of variants that are not as many as the statements
+abbrev pub variant_count_text : ℕ → ℕ → List ℕ
+variant_count_text given due = codes "refused VariantCount given " ++ decimal given ++ codes " due " ++ decimal due ++ codes "\n"
+
+-- a statement, numbered from 1, whose operation has no variant with its number
+abbrev pub no_variant_text : ℕ → List ℕ
+no_variant_text number = codes "refused NoVariant statement " ++ decimal number ++ codes "\n"
+
 -- a dimension of a job that is cut into too many parts, by the statement, numbered from 1, and the dimension's name
 abbrev pub too_many_parts_text : ℕ → List ℕ → List ℕ
 too_many_parts_text number name = codes "refused TooManyParts statement " ++ decimal number ++ codes " dimension " ++ name ++ codes "\n"

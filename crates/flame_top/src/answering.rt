@@ -5,14 +5,16 @@ ghost use Rattle.std.specs.Io.KnownBytes.{Consumes, IsAtEnd};
 ghost use Rattle.outside_io.specs.Causes.{Rose};
 ghost use Rattle.flame_top.specs.Due.{DueCommand, DueInput};
 ghost use Rattle.flame_top.specs.Answers.{Answers, IsDueStatus, Delivers, DueFrom, state_of};
-ghost use Rattle.flame_top.specs.Words.{IsInRange};
+ghost use Rattle.command_words.specs.Words.{IsInRange, ReadsInput};
 ghost use Rattle.flame_top.specs.declared.answering.Halt.TheVariants.{Memory};
 
-use crate::command::Command;
 use crate::derive::derive_output;
+use crate::make::make_output;
 use crate::output::Output;
 use crate::run::run_output;
+use crate::selfrun::selfrun_output;
 use crate::verify::verify_output;
+use command_words::Command;
 use outside_io::{Failed, ReadEnd, Sink, Source, read_all, write_all};
 use std::alloc::{AllocError, Global};
 
@@ -46,33 +48,39 @@ fn too_long(alloc: Global) -> Result<Output, AllocError>
     })
 }
 
-fn short_output(alloc: Global, command: Command, bytes: &[u8]) -> Result<Output, AllocError>
-    requires range { IsInRange command }
+/// Composes the output of a command for an input, which a command that reads none doesn't look at.
+fn input_output(alloc: Global, command: &Command, bytes: &[u8]) -> Result<Output, AllocError>
+    requires range { IsInRange command.now }
     requires short { length bytes.now ≤ 67108864 }
-    ensures { IfOk result (λ output. DueInput command bytes.now output.status output.text.items) }
+    ensures { IfOk result (λ output.
+        DueInput command.now bytes.now output.status output.text.items) }
 {
     match command {
         Command::Derive => Ok(derive_output(alloc, bytes)?),
         Command::Verify => Ok(verify_output(alloc, bytes)?),
-        Command::Run { words } => Ok(run_output(alloc, bytes, words.block)?),
+        Command::Make { n, m, seed } => Ok(make_output(alloc, *n, *m, *seed)?),
+        Command::Run { words } => Ok(run_output(alloc, bytes, words)?),
+        Command::SelfRun { words } => Ok(selfrun_output(alloc, *words)?),
     }
 }
 
 /// Reads the source to its end, and composes the output of a command.
-pub fn command_output<S: Source>(
+fn command_output<S: Source>(
     alloc: Global,
-    command: Command,
+    command: &Command,
     source: &mut S,
 ) -> Result<Output, Halt>
-    requires { IsInRange command }
-    ensures due { IfOk result (λ output. DueFrom (DueCommand command) (S.left source.old) output.status output.text.items) }
+    requires range { IsInRange command.now }
+    requires reads { ReadsInput command.now }
+    ensures due { IfOk result (λ output. DueFrom (DueCommand command.now) (S.left source.old)
+        output.status output.text.items) }
     ensures read_fault { IsErrOf result Halt.ReadFault → Rose (S.faults source.old) (S.faults source.new) }
     ensures quiet { result ≢ Err Halt.ReadFault → S.faults source.new ≡ S.faults source.old }
     ensures taken { (front : List ℕ) × Consumes (S.left source.old) (S.left source.new) front }
     ensures ended { IfOk result (λ output. output.status ≢ 3 → IsAtEnd (S.left source.new)) }
 {
     match read_all(alloc, source, LIMIT) {
-        Ok(bytes) => Ok(short_output(alloc, command, &bytes)?),
+        Ok(bytes) => Ok(input_output(alloc, command, &bytes)?),
         Err(ReadEnd::TooLong) => Ok(too_long(alloc)?),
         Err(ReadEnd::ReadFault) => Err(Halt::ReadFault),
         Err(ReadEnd::Memory) => Err(Halt::Memory),
@@ -93,12 +101,13 @@ pub fn deliver<K: Sink>(sink: &mut K, status: u8, text: &[u8]) -> u8
 /// Reads the source to its end, composes the output of the command, and writes it.
 pub fn answer_command<S: Source, K: Sink>(
     alloc: Global,
-    command: Command,
+    command: &Command,
     source: &mut S,
     sink: &mut K,
 ) -> u8
-    requires { IsInRange command }
-    ensures answers { Answers (DueCommand command)
+    requires range { IsInRange command.now }
+    requires reads { ReadsInput command.now }
+    ensures answers { Answers (DueCommand command.now)
         (state_of S.left S.faults source.old) (state_of S.left S.faults source.new)
         (state_of K.held K.faults sink.old) (state_of K.held K.faults sink.new) result }
     ensures ended { IsDueStatus result → result ≢ 3 → IsAtEnd (S.left source.new) }
@@ -108,5 +117,26 @@ pub fn answer_command<S: Source, K: Sink>(
         Ok(output) => deliver(sink, output.status, &output.text),
         Err(Halt::Memory) => 5,
         Err(Halt::ReadFault) => 1,
+    }
+}
+
+/// Composes the output of a command that reads no input, and writes it. The source stays as it is.
+pub fn answer_alone<S: Source, K: Sink>(
+    alloc: Global,
+    command: &Command,
+    source: &mut S,
+    sink: &mut K,
+) -> u8
+    requires range { IsInRange command.now }
+    requires alone { ¬ (ReadsInput command.now) }
+    ensures answers { Answers (DueCommand command.now)
+        (state_of S.left S.faults source.old) (state_of S.left S.faults source.new)
+        (state_of K.held K.faults sink.old) (state_of K.held K.faults sink.new) result }
+    ensures unread { (source.new ≡ source.old) × (result ≢ 1) }
+    ensures untouched { result ≡ 5 → sink.new ≡ sink.old }
+{
+    match input_output(alloc, command, b"") {
+        Ok(output) => deliver(sink, output.status, &output.text),
+        Err(AllocError) => 5,
     }
 }

@@ -8,11 +8,11 @@ ghost use Rattle.flame_top.specs.Answers.{Answers, IsDueStatus, state_of};
 ghost use Rattle.flame_top.specs.Derive.{DueFamilies, families_text};
 ghost use Rattle.flame_top.specs.Due.{DueCommand};
 ghost use Rattle.flame_top.specs.DueTexts.{DueShort};
-ghost use Rattle.flame_top.specs.Words.{AsksFamilies};
+ghost use Rattle.command_words.specs.Words.{AsksFamilies};
 
 use crate::answering::answer_command;
-use crate::command::Command;
 use crate::output::{Output, fault_output};
+use command_words::Command;
 use equation::Job;
 use invariant_family::family;
 use job_text::{JobFault, Stop, read_job};
@@ -78,5 +78,5 @@ pub fn derive_cmd<S: Source, K: Sink>(
     ensures ended { IsDueStatus result → result ≢ 3 → IsAtEnd (S.left source.new) }
     ensures untouched { (result ≡ 1) ⊎ (result ≡ 5) → sink.new ≡ sink.old }
 {
-    answer_command(alloc, *command, source, sink)
+    answer_command(alloc, command, source, sink)
 }

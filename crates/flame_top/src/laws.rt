@@ -1,14 +1,18 @@
 //! What the relation of what is due means. Each law is the contract of a function that does nothing.
-//! Together they say that for all words and each input exactly one status and one text are due, that a run's result doesn't depend
-//! on the block size, and what a call's promise comes to where nothing fails.
+//! Together they say that for all words and each input exactly one status and one text are due, that a run's result depends neither
+//! on the variants nor on the block size, and what a call's promise comes to where nothing fails.
 
-ghost use Rattle.std.specs.Prelude.{◌≡◌, ◌≢◌, ◌++◌, ℕ, List, Some};
+ghost use Rattle.std.specs.Prelude.{◌≡◌, ◌≢◌, ◌++◌, ℕ, List, Some, false};
 ghost use Rattle.outside_io.specs.Causes.{Rose};
+ghost use Rattle.command_words.specs.declared.command.RunWords.{RunWords};
 ghost use Rattle.equation.specs.declared.job.Job.{Job};
 ghost use Rattle.equation.specs.Jobs.{IsJob};
 ghost use Rattle.flame_top.specs.Answers.{Answers, StreamState};
 ghost use Rattle.flame_top.specs.Due.{Due};
 ghost use Rattle.flame_top.specs.Run.{DueRun};
+ghost use Rattle.flame_top.specs.SelfRun.{DueSelfRun};
+ghost use Rattle.variant_report.specs.declared.self_words.SelfWords.{SelfWords};
+ghost use Rattle.command_words.specs.Words.{AreSelfWords};
 
 /// For the same words and input at most one status and one text are due.
 pub fn due_is_determined()
@@ -21,11 +25,20 @@ pub fn something_is_due()
     ensures { (words : List (List ℕ)) (input : List ℕ) → (status : ℕ) × (text : List ℕ) × Due words input status text }
 {}
 
-/// The block size changes no result: where a job is refused under neither of two block sizes, the same is due under both.
-pub fn block_sizes_change_no_result()
-    ensures { (job : Job) → IsJob job → (b c status other : ℕ) (text different : List ℕ)
-        → DueRun b job status text → DueRun c job other different → status ≢ 3 → other ≢ 3
-        → (status ≡ other) × (text ≡ different) }
+/// Neither the variants nor the block size change a result: where a job is refused under neither of two lists of words that ask for
+/// no trace, the same is due under both.
+pub fn variants_and_block_sizes_change_no_result()
+    ensures { (job : Job) → IsJob job → (words changed : RunWords)
+        → words.trace ≡ false → changed.trace ≡ false
+        → (status other : ℕ) (text different : List ℕ)
+        → DueRun words job status text → DueRun changed job other different
+        → status ≢ 3 → other ≢ 3 → (status ≡ other) × (text ≡ different) }
+{}
+
+/// No run of a generated job meets a bad pivot.
+pub fn no_selfrun_meets_a_bad_pivot()
+    ensures { (words : SelfWords) → AreSelfWords words → (status : ℕ) (text : List ℕ)
+        → DueSelfRun words status text → status ≢ 4 }
 {}
 
 /// What the promise of `top` comes to where the source tells its bytes, the sink tells what it holds, and neither fails: the

@@ -1,7 +1,8 @@
 //! The texts of refusals, and of a bad pivot.
 
 ghost use Rattle.std.specs.Prelude.{◌≡◌, ◌++◌, decimal, OnOk};
-ghost use Rattle.flame_top.specs.Refusals.{bad_pivot_text, kind_at, refusal_text, too_many_parts_text};
+ghost use Rattle.flame_top.specs.Refusals.{bad_pivot_text, kind_at, no_variant_text, refusal_text};
+ghost use Rattle.flame_top.specs.Refusals.{too_many_parts_text, variant_count_text};
 
 use byte_texts::put_decimal;
 use equation::Place;
@@ -51,6 +52,26 @@ fn put_numbered(words: &[u8], number: u32, out: &mut Vec<u8>) -> Result<(), Allo
 {
     out.extend_from_slice(words)?;
     put_decimal(u64::from(number), out)?;
+    Ok(())
+}
+
+/// Appends what is printed where so many numbers of variants are given and so many are due.
+pub fn put_variant_count(given: u64, due: u32, out: &mut Vec<u8>) -> Result<(), AllocError>
+    ensures { OnOk result (out.new.items ≡ out.old.items ++ variant_count_text given due) }
+{
+    out.extend_from_slice(b"refused VariantCount given ")?;
+    put_decimal(given, out)?;
+    put_numbered(b" due ", due, out)?;
+    out.push(b'\n')?;
+    Ok(())
+}
+
+/// Appends what is printed of a job whose statement, numbered from 1, has no variant with its number.
+pub fn put_no_variant(statement: u32, out: &mut Vec<u8>) -> Result<(), AllocError>
+    ensures { OnOk result (out.new.items ≡ out.old.items ++ no_variant_text statement) }
+{
+    put_numbered(b"refused NoVariant statement ", statement, out)?;
+    out.push(b'\n')?;
     Ok(())
 }
 

@@ -1,70 +1,91 @@
 //! `run`: the matrices that a job leaves, or its first bad pivot, found by block tasks.
 
-ghost use Rattle.std.specs.Prelude.{◌≡◌, ◌≢◌, ◌≤◌, ◌⊎◌, length, IfOk};
+ghost use Rattle.std.specs.Prelude.{◌≡◌, ◌≢◌, ◌≤◌, ◌⊎◌, ◌++◌, length, IfOk, OnOk};
 ghost use Rattle.std.specs.Io.KnownBytes.{IsAtEnd};
-ghost use Rattle.equation.specs.Jobs.{IsJob, IsStatement};
-ghost use Rattle.equation.specs.Meanings.{Means, MeansBadPivot};
-ghost use Rattle.step_replays.specs.Accesses.{operation_of, statement_of};
+ghost use Rattle.equation.specs.Jobs.{IsJob};
+ghost use Rattle.equation.specs.Meanings.{Means};
 ghost use Rattle.step_replays.specs.Fits.{FitsJob};
-ghost use Rattle.issue_list.specs.CanonicalSteps.{HasDimension};
+ghost use Rattle.issue_list.specs.CanonicalSteps.{most_steps};
+ghost use Rattle.variant_report.specs.ResultTexts.{result_text};
+ghost use Rattle.command_words.specs.Words.{AreRunWords, AsksRun, IsInRange};
 ghost use Rattle.flame_top.specs.Answers.{Answers, IsDueStatus, state_of};
 ghost use Rattle.flame_top.specs.Due.{DueCommand};
-ghost use Rattle.flame_top.specs.DueTexts.{DueShort, Says};
-ghost use Rattle.flame_top.specs.Refusals.{too_many_parts_text, too_many_steps_text};
-ghost use Rattle.flame_top.specs.Run.{dimension_name, DueMeaning, DueRun};
-ghost use Rattle.flame_top.specs.Words.{AsksRun, IsInRange};
+ghost use Rattle.flame_top.specs.DueTexts.{DueShort};
+ghost use Rattle.flame_top.specs.Meaning.{DueMeaning, DueResult};
+ghost use Rattle.flame_top.specs.Run.{DueRun, run_text, trace_part};
+ghost use Rattle.flame_top.specs.Steps.{steps_by};
 
 use crate::answering::answer_command;
-use crate::command::Command;
+use crate::meaning::bad_pivot_output;
 use crate::output::{Output, fault_output};
-use crate::refusals::{put_bad_pivot, put_too_many_parts};
-use equation::{Job, Place, Statement};
-use issue_list::laws::canonical_steps_fit;
-use issue_list::{IssueFault, canonical_steps};
+use crate::steps::{Listing, list_steps};
+use command_words::{Command, RunWords};
+use equation::{Job, Place};
 use job_text::{JobFault, Stop, read_job};
 use matrix_core::MatrixList;
-use operation_spec::Operation;
 use outside_io::{Sink, Source};
+use schedule_core::edges_of_steps;
 use std::alloc::{AllocError, Global};
 use step_replays::StepList;
 use task_values::{Outcome, replay};
-use variant_report::write_result;
+use variant_report::{ordered_events, write_result, write_trace};
 
-/// Prints the matrices that a job means.
-fn result_output(alloc: Global, job: &Job, after: &MatrixList) -> Result<Output, AllocError>
+/// Appends, where it is asked for, the trace of one worker that goes through these steps in their order.
+fn put_trace(
+    alloc: Global,
+    trace: bool,
+    steps: &StepList,
+    out: &mut Vec<u8>,
+) -> Result<(), AllocError>
+    requires { length steps.now ≤ most_steps }
+    ensures { OnOk result (out.new.items ≡ out.old.items ++ trace_part trace steps.now) }
+{
+    if !trace {
+        return Ok(());
+    }
+    let edges = edges_of_steps(alloc, steps.as_slice())?;
+    let schedule = ordered_events(alloc, steps.len() as u32)?;
+    write_trace(alloc, steps, &edges, &schedule, out)
+}
+
+/// Prints the matrices that a job means, and behind them the trace where it is asked for.
+fn result_output(
+    alloc: Global,
+    job: &Job,
+    trace: bool,
+    steps: &StepList,
+    after: &MatrixList,
+) -> Result<Output, AllocError>
     requires job { IsJob job.now }
     requires means { Means job.now after.now }
-    ensures { IfOk result (λ output. DueMeaning job.now output.status output.text.items) }
+    requires few { length steps.now ≤ most_steps }
+    ensures { IfOk result (λ output. DueResult job.now
+        (λ after. result_text job.now after ++ trace_part trace steps.now)
+        output.status output.text.items) }
 {
     let mut text = Vec::new(alloc);
     write_result(alloc, job, after, &mut text)?;
+    put_trace(alloc, trace, steps, &mut text)?;
     Ok(Output { status: 0, text })
 }
 
-/// Names the first bad pivot that a job means.
-fn bad_pivot_output(
+/// Goes through the steps of a job, and prints what they come to.
+fn steps_output(
     alloc: Global,
     job: &Job,
-    statement: u32,
-    place: Place,
+    words: &RunWords,
+    steps: &StepList,
 ) -> Result<Output, AllocError>
-    requires { MeansBadPivot job.now statement place }
-    ensures { IfOk result (λ output. DueMeaning job.now output.status output.text.items) }
-{
-    let mut text = Vec::new(alloc);
-    put_bad_pivot(statement, place, &mut text)?;
-    Ok(Output { status: 4, text })
-}
-
-/// Goes through the steps of a job, and prints what they come to.
-fn replay_output(alloc: Global, job: &Job, b: u32, steps: &StepList) -> Result<Output, AllocError>
     requires job { IsJob job.now }
-    requires size { 1 ≤ b }
-    requires fit { FitsJob job.now b steps.now }
-    ensures { IfOk result (λ output. DueMeaning job.now output.status output.text.items) }
+    requires size { 1 ≤ words.now.block }
+    requires fit { FitsJob job.now words.now.block steps.now }
+    requires steps { steps.now ≡ steps_by job.now words.now.block words.now.choice }
+    requires few { length steps.now ≤ most_steps }
+    ensures { IfOk result (λ output.
+        DueMeaning job.now (run_text words.now job.now) output.status output.text.items) }
 {
-    match replay(alloc, job, b, steps)? {
-        Outcome::Done(after) => Ok(result_output(alloc, job, &after)?),
+    match replay(alloc, job, words.block, steps)? {
+        Outcome::Done(after) => Ok(result_output(alloc, job, words.trace, steps, &after)?),
         Outcome::BadPivot {
             statement,
             row,
@@ -76,93 +97,45 @@ fn replay_output(alloc: Global, job: &Job, b: u32, steps: &StepList) -> Result<O
     }
 }
 
-/// The operation of a statement of the job.
-fn operation_at<'a>(job: &'a Job, statement: &Statement) -> &'a Operation
-    requires { IsStatement job.now statement.now }
-    ensures { result.now ≡ operation_of job.now statement.now }
-{
-    &job.operations.as_slice()[statement.operation as usize]
-}
-
-/// The operation of the statement with a number.
-fn numbered_operation(job: &Job, number: u32) -> &Operation
+/// Lists the steps of a job and goes through them, or refuses the job.
+fn job_output(alloc: Global, job: &Job, words: &RunWords) -> Result<Output, AllocError>
     requires job { IsJob job.now }
-    requires from { 1 ≤ number }
-    requires within { number ≤ length job.now.statements }
-    ensures { result.now ≡ operation_of job.now (statement_of job.now number) }
+    requires size { 1 ≤ words.now.block }
+    ensures { IfOk result (λ output. DueRun words.now job.now output.status output.text.items) }
 {
-    operation_at(job, &job.statements.as_slice()[number as usize - 1])
-}
-
-/// Names a dimension of a statement as one that is cut into too many parts.
-fn too_many_parts_output(
-    alloc: Global,
-    job: &Job,
-    statement: u32,
-    dim: u32,
-) -> Result<Output, AllocError>
-    requires job { IsJob job.now }
-    requires has { HasDimension job.now statement dim }
-    ensures { IfOk result (λ output. Says 3
-        (too_many_parts_text statement (dimension_name job.now statement dim)) output.status output.text.items) }
-{
-    let op = numbered_operation(job, statement);
-    let name = op.dims.as_slice()[dim as usize].as_slice();
-    let mut text = Vec::new(alloc);
-    put_too_many_parts(statement, name, &mut text)?;
-    Ok(Output { status: 3, text })
-}
-
-fn too_many_steps_output(alloc: Global) -> Result<Output, AllocError>
-    ensures { IfOk result (λ output. Says 3 too_many_steps_text output.status output.text.items) }
-{
-    Ok(Output {
-        status: 3,
-        text: Vec::from_slice(alloc, b"refused TooManySteps\n")?,
-    })
-}
-
-/// Does the block tasks of a job under block size b in canonical order, and prints what they come to.
-fn job_output(alloc: Global, job: &Job, b: u32) -> Result<Output, AllocError>
-    requires job { IsJob job.now }
-    requires size { 1 ≤ b }
-    ensures { IfOk result (λ output. DueRun b job.now output.status output.text.items) }
-{
-    canonical_steps_fit();
-    match canonical_steps(alloc, job, b) {
-        Ok(steps) => Ok(replay_output(alloc, job, b, &steps)?),
-        Err(IssueFault::TooManyParts { statement, dim }) => {
-            Ok(too_many_parts_output(alloc, job, statement, dim)?)
-        }
-        Err(IssueFault::TooManySteps) => Ok(too_many_steps_output(alloc)?),
-        Err(IssueFault::Memory) => Err(AllocError),
+    match list_steps(alloc, job, words.block, &words.choice)? {
+        Listing::Steps(steps) => Ok(steps_output(alloc, job, words, &steps)?),
+        Listing::Refused(output) => Ok(output),
     }
 }
 
-/// A run, under block size b, of the job that the bytes spell.
-pub fn run_output(alloc: Global, bytes: &[u8], b: u32) -> Result<Output, AllocError>
+/// A run of the job that the bytes spell.
+pub fn run_output(alloc: Global, bytes: &[u8], words: &RunWords) -> Result<Output, AllocError>
     requires short { length bytes.now ≤ 67108864 }
-    requires size { 1 ≤ b }
+    requires range { AreRunWords words.now }
     ensures { IfOk result (λ output.
-        DueShort (DueRun b) bytes.now output.status output.text.items) }
+        DueShort (DueRun words.now) bytes.now output.status output.text.items) }
 {
     match read_job(alloc, bytes, Stop::Nothing) {
-        Ok((job, _)) => Ok(job_output(alloc, &job, b)?),
+        Ok((job, _)) => Ok(job_output(alloc, &job, words)?),
         Err(JobFault::Memory) => Err(AllocError),
         Err(fault) => Ok(fault_output(alloc, fault)?),
     }
 }
 
 /// Runs the job of the input with one worker: reads the source to its end, cuts the job's matrices into blocks of as many rows
-/// and columns as the command's block size says, does the block tasks of the statements one after another, and writes the
-/// matrices that the job prints. It answers the status.
+/// and columns as the command's block size says, does the block tasks of the statements one after another, by each statement's
+/// variant, and writes the matrices that the job prints. It answers the status.
 ///
-/// - 0 comes with the text of those matrices, in the order of the prints.
+/// - 0 comes with the text of those matrices, in the order of the prints. Where the command asks for the trace, it stands behind
+///   them: the steps, the direct edges between them, and the beginning and the end of each step in their order.
 /// - 3 comes with `refused TooLong` where the input has more than 67,108,864 bytes, and with `refused KIND line L` where it
-///   is no text of a job. Behind these it comes with `refused TooManyParts statement S dimension D` where the block size cuts a
-///   dimension of a statement's operation into more than 32 parts: S is the number, from 1, of the first such statement, and D
-///   the name of the first such dimension that its operation declares; and with `refused TooManySteps` where no dimension has
-///   so many and there are more than 262,144 steps.
+///   is no text of a job. Behind these it comes with the first of these that applies: `refused VariantCount given G due D` where
+///   the command gives G numbers of variants and the job has D statements; `refused NoVariant statement S` where statement S,
+///   numbered from 1, is the first whose operation has no variant with its number (the number is 1 where the command gives
+///   none); `refused TooManyParts statement S dimension D` where the block size cuts a dimension of a statement's operation into
+///   more than 32 parts: S is the first such statement, and D the name of the first such dimension that its operation declares;
+///   `refused TooManySteps` where there are more than 262,144 steps.
 /// - 4 comes with `no inverse statement S row R column C` where the first pivot without an inverse is met by statement S,
 ///   numbered from 1, in row R and column C, numbered from 0.
 /// - 1 comes only where the source failed, and 5 where memory ran out; nothing is written.
@@ -181,5 +154,5 @@ pub fn run_one_cmd<S: Source, K: Sink>(
     ensures ended { IsDueStatus result → result ≢ 3 → IsAtEnd (S.left source.new) }
     ensures untouched { (result ≡ 1) ⊎ (result ≡ 5) → sink.new ≡ sink.old }
 {
-    answer_command(alloc, *command, source, sink)
+    answer_command(alloc, command, source, sink)
 }

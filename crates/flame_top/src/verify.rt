@@ -9,12 +9,12 @@ ghost use Rattle.job_text.specs.AfterBlocks.{AreAfter, IsPlace};
 ghost use Rattle.flame_top.specs.Answers.{Answers, IsDueStatus, state_of};
 ghost use Rattle.flame_top.specs.Due.{DueCommand};
 ghost use Rattle.flame_top.specs.Verify.{Differs, DueAnswer, DueBehind, DueVerify, Verifies};
-ghost use Rattle.flame_top.specs.Words.{AsksVerify};
+ghost use Rattle.command_words.specs.Words.{AsksVerify};
 
 use crate::answering::answer_command;
-use crate::command::Command;
 use crate::output::{Output, fault_output};
 use byte_texts::put_decimal;
+use command_words::Command;
 use equation::{Job, Place, residual};
 use job_text::{JobFault, Stop, read_after, read_job};
 use matrix_core::{Matrix, MatrixList};
@@ -167,5 +167,5 @@ pub fn verify_cmd<S: Source, K: Sink>(
     ensures ended { IsDueStatus result → result ≢ 3 → IsAtEnd (S.left source.new) }
     ensures untouched { (result ≡ 1) ⊎ (result ≡ 5) → sink.new ≡ sink.old }
 {
-    answer_command(alloc, *command, source, sink)
+    answer_command(alloc, command, source, sink)
 }

@@ -5,7 +5,7 @@ use Rattle.residue_sums.specs.Sums.{part_count}
 use Rattle.step_replays.specs.Fits.{length_of}
 use Rattle.job_blocks.specs.BlockedJobs.{BlockedJob, HasStatement, IsBlockedJob, binding_at, counts_at, operation_at}
 use Rattle.job_blocks.proofs.StatementFacts.{sound}
-use Rattle.issue_list.specs.CanonicalSteps.{IsFirstLongOf, most_parts}
+use Rattle.issue_list.specs.CanonicalSteps.{HasDimension, IsFirstLongOf, most_parts, parts_at}
 
 -- each declared dimension has a count
 length-counts : (x : BlockedJob) (s : ℕ) → length (counts_at x s) ≡ length (operation_at x s).dims
@@ -24,3 +24,8 @@ first-long x s d counts has e below long before = record {
   long = subst (λ (all : List ℕ). most_parts < get_or all d 0) e long;
   dimensions = subst (λ (all : List ℕ). (f : ℕ) → f < d → get_or all f 0 ≤ most_parts) e before;
 }
+
+-- where no count is too high, no dimension has too many parts
+pub counts-all_few : (x : BlockedJob) (s : ℕ) (counts : List ℕ) → counts ≡ counts_at x s → ((d : ℕ) → d < length counts → get_or counts d 0 ≤ most_parts)
+    → (d : ℕ) → HasDimension x.job s d → parts_at x.job x.b s d ≤ most_parts
+counts-all_few x s counts e few d has = subst (λ (all : List ℕ). (d : ℕ) → d < length all → get_or all d 0 ≤ most_parts) e few d (omega (arith, length-counts x s, has.declared))

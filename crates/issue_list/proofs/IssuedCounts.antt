@@ -1,5 +1,5 @@
 -- How many steps by variants there are: as many as in canonical order. Cited by the law that says so.
-use Rattle.std.proofs.Common.{◌≡◌, ℕ, zero, suc, ◌+◌, ◌≤◌, Bool, true, false, cond, ◌&&◌, not, Option, List, [], ◌∷◌, ◌++◌, length, map, All, refl, sym, ap, ◌∙◌, subst, arith, length-append}
+use Rattle.std.proofs.Common.{◌≡◌, ℕ, zero, suc, ◌+◌, ◌<◌, ◌≤◌, Bool, true, false, cond, ◌&&◌, not, Option, List, [], ◌∷◌, ◌++◌, length, map, All, refl, sym, ap, ◌∙◌, subst, arith, length-append}
 use Rattle.std.specs.List.{filter, flat_map, range_with_len}
 use Rattle.std.proofs.lemmas.Bool.{false≢true}
 use Rattle.std.proofs.lemmas.List.{flat_map_more, length-map}
@@ -79,6 +79,10 @@ module _ (op : Operation) (counts : List ℕ) (valid : IsValid op) (v : Variant)
       ∙ filter-all (done (iterations counts v.split)) tasks
       (each (λ u. done (iterations counts v.split) u ≡ true) (λ u h. done-all op valid counts v is (iterations counts v.split) u (omega arith) h)))
       ∙ sym (length-append (pivots_tasks op) tasks)
+
+  -- more than a limit, where the block tasks alone are
+  pub issued-many : (limit : ℕ) → limit < length tasks → limit < length (issued_tasks op counts v)
+  issued-many limit many = omega (arith, many, length-issued_tasks, length-append (pivots_tasks op) tasks)
 
 -- ---- all statements
 

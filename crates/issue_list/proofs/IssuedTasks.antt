@@ -64,7 +64,7 @@ module _ (op : Operation) (counts : List ℕ) (v : Variant) where
   abbrev done : ℕ → Task → Bool
   done t u = is_done op counts v t u
 
-  abbrev block_tasks : List Task
+  abbrev pub block_tasks : List Task
   block_tasks = flat_map (tasks_in op counts v) (range_with_len 0 (iterations counts v.split))
 
   -- task w comes behind u in one iteration, or u is done at a time when w isn't

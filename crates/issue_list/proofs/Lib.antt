@@ -6,6 +6,9 @@ pub mod NumbersInOrder
 pub mod IssuedCounts
 pub mod IssuedSteps
 pub mod IssuedTasks
+pub mod PlacedTasks
+pub mod FirstWithout
+pub mod FoundVariants
 pub mod TasksOfStatements
 pub mod StepsInOrder
 pub mod StepsListed

@@ -1,7 +1,8 @@
 -- The numbers of a range: which there are, and that they ascend. Cited by the lemmas on statements and on iterations.
-use Rattle.std.proofs.Common.{◌≡◌, ℕ, zero, suc, ◌+◌, ◌<◌, ◌≤◌, [], ◌∷◌, ◌++◌, All, Contains, ap, ◌∙◌, arith}
+use Rattle.std.proofs.Common.{◌≡◌, ℕ, zero, suc, ◌+◌, ◌<◌, ◌≤◌, List, [], ◌∷◌, ◌++◌, map, All, Contains, sym, ap, ◌∙◌, arith}
 use Rattle.std.specs.Prelude.{AllPairs}
-use Rattle.std.specs.List.{range_with_len}
+use Rattle.std.specs.List.{flat_map, range_with_len}
+use Rattle.std.proofs.lemmas.List.{flat_map_more, map-append}
 use Rattle.std.proofs.lemmas.List.FromFn.{get_or-range_with_len, length-range_with_len}
 
 pub numbers-within : (n : ℕ) → All (λ s. (1 ≤ s) × (s ≤ n)) (range_with_len 1 n)
@@ -25,3 +26,13 @@ range-more a (suc n) last e =
     let next : suc n + 1 ≡ suc (n + 1) = omega arith in
     let moved : (a + 1) + n ≡ last = omega (arith, e) in
     ap (range_with_len a) next ∙ ap (λ ns. a ∷ ns) (range-more (a + 1) n last moved)
+
+-- and what a function makes of it
+pub map_range_more : {X : Type 0} (f : ℕ → X) (n : ℕ) → map f (range_with_len 0 (n + 1)) ≡ map f (range_with_len 0 n) ++ f n ∷ []
+map_range_more f n = ap (map f) (range-more 0 n n (omega arith)) ∙ map-append f (range_with_len 0 n) (n ∷ [])
+
+-- lists that a function makes, one behind the other
+pub flat_map_range_more : {X : Type 0} (f : ℕ → List X) {so_far more : List X} (n : ℕ) → so_far ≡ flat_map f (range_with_len 0 n) → more ≡ so_far ++ f n
+    → more ≡ flat_map f (range_with_len 0 (n + 1))
+flat_map_range_more {X} f n listed e =
+    e ∙ ap (λ (xs : List X). xs ++ f n) listed ∙ flat_map_more f [] (range_with_len 0 n) n ∙ ap (flat_map f) (sym (range-more 0 n n (omega arith)))

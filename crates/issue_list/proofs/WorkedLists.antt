@@ -8,7 +8,7 @@ use Rattle.equation.specs.declared.job.Statement.{Statement}
 use Rattle.issue_list.specs.CanonicalSteps.{canonical_steps, statement_steps}
 use Rattle.invariant_family.specs.Families.{family_of, variant_numbered}
 use Rattle.issue_list.specs.IssuedSteps.{issued_statement_steps, issued_steps, tasks_by}
-use Rattle.issue_list.specs.WorkedSteps.{backward_tasks, bordered_tasks, nine_steps, paired_tasks, right_looking_tasks, steps_by_columns}
+use Rattle.issue_list.specs.WorkedSteps.{backward_tasks, bordered_tasks, corner_tasks, nine_steps, paired_tasks, right_looking_tasks, steps_by_columns}
 
 abbrev grid : ℕ → ℕ → List ℕ → Grid
 grid rows cols entries = record { rows = rows; cols = cols; entries = entries }
@@ -65,3 +65,7 @@ backward = refl
 pub paired : tasks_by low (1 ∷ 3 ∷ []) (variant_numbered (family_of low) 5) ≡ paired_tasks
 unfolding low
 paired = refl
+
+pub cornered : tasks_by low (2 ∷ 3 ∷ []) (variant_numbered (family_of low) 13) ≡ corner_tasks
+unfolding low
+cornered = refl

@@ -63,3 +63,10 @@ backward_tasks = task_of Pivots 0 0 0 0 ∷ solve 0 2 ∷ solve 0 1 ∷ solve 0 
 -- the same along rows and columns, where the row is done after the first iteration
 abbrev pub paired_tasks : List Task
 paired_tasks = task_of Pivots 0 0 0 0 ∷ solve 0 0 ∷ solve 0 1 ∷ solve 0 2 ∷ []
+
+-- the same of two rows and three columns of blocks, rows forward and columns backward at one time, where the corner that both have done is kept
+abbrev pub corner_tasks : List Task
+corner_tasks = task_of Pivots 0 0 0 0 ∷ solve 0 2
+    ∷ solve 0 1 ∷ left 1 1 0 ∷ solve 1 1 ∷ left 1 2 0 ∷ solve 1 2
+    ∷ solve 0 0 ∷ left 1 0 0 ∷ solve 1 0
+    ∷ []

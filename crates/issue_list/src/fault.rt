@@ -9,6 +9,10 @@ use task_graph::TaskFault;
 pub enum IssueFault {
     /// Memory ran out.
     Memory,
+    /// The given numbers of variants aren't as many as the statements.
+    VariantCount { given: u64, due: u32 },
+    /// The first statement, numbered from 1, whose operation has no variant with its number.
+    NoVariant { statement: u32 },
     /// The first statement, numbered from 1, and in it the first declared dimension, numbered from 0, that is cut into more
     /// than 32 parts.
     TooManyParts { statement: u32, dim: u32 },

@@ -1,6 +1,6 @@
 //! What the list of steps is. Each law is the contract of a function that does nothing.
 
-ghost use Rattle.std.specs.Prelude.{◌≡◌, ◌<◌, ℕ, List, [], ◌∷◌, length, sum_by};
+ghost use Rattle.std.specs.Prelude.{◌≡◌, ◌⊎◌, ◌<◌, ℕ, List, [], ◌∷◌, length, suc, sum_by};
 ghost use Rattle.std.specs.List.{range_with_len};
 ghost use Rattle.operation_spec.specs.declared.operation.Operation.{Operation};
 ghost use Rattle.invariant_family.specs.Families.{family_of, variant_numbered};
@@ -8,10 +8,12 @@ ghost use Rattle.equation.specs.declared.job.Job.{Job};
 ghost use Rattle.equation.specs.Jobs.{IsJob};
 ghost use Rattle.step_replays.specs.Fits.{FitsJob};
 ghost use Rattle.issue_list.specs.CanonicalSteps.{canonical_steps as canonical, step_count};
-ghost use Rattle.issue_list.specs.IssuedSteps.{HaveVariants, issued_steps, tasks_by};
+ghost use Rattle.issue_list.specs.declared.choice.Choice.TheVariants.{Each, First};
+ghost use Rattle.issue_list.specs.Choices.{HasDueCount, IsFirstWithout, numbers_of};
+ghost use Rattle.issue_list.specs.IssuedSteps.{HaveVariants, issued_steps, number_for, tasks_by};
 ghost use Rattle.issue_list.specs.WorkedSteps.{nine_steps, steps_by_columns};
-ghost use Rattle.issue_list.specs.WorkedSteps.{backward_tasks, bordered_tasks, paired_tasks};
-ghost use Rattle.issue_list.specs.WorkedSteps.{right_looking_tasks};
+ghost use Rattle.issue_list.specs.WorkedSteps.{backward_tasks, bordered_tasks, corner_tasks};
+ghost use Rattle.issue_list.specs.WorkedSteps.{paired_tasks, right_looking_tasks};
 
 /// The canonical list of steps of a valid job fits it.
 pub fn canonical_steps_fit()
@@ -31,6 +33,25 @@ pub fn issued_steps_are_counted()
         → length (issued_steps job b numbers) ≡ length (canonical job b) }
 {}
 
+/// The first variants are always as many as the statements, and each of them is the one with number 1. Given numbers stand as they
+/// are given.
+pub fn first_variants_are_counted()
+    ensures count { (job : Job) → HasDueCount job First }
+    ensures ones { (job : Job) (before : ℕ) → before < length job.statements
+        → number_for (numbers_of job First) (suc before) ≡ 1 }
+    ensures given { (job : Job) (numbers : List ℕ) → numbers_of job (Each numbers) ≡ numbers }
+{}
+
+/// Each statement of a job has the variant with its number, or one of them is the first that has none.
+pub fn statements_have_variants()
+    ensures some { (job : Job) (numbers : List ℕ)
+        → HaveVariants job numbers ⊎ ((s : ℕ) × IsFirstWithout job numbers s) }
+    ensures apart { (job : Job) (numbers : List ℕ) (s : ℕ) → HaveVariants job numbers
+        → IsFirstWithout job numbers s → ⊥ }
+    ensures one { (job : Job) (numbers : List ℕ) (s t : ℕ) → IsFirstWithout job numbers s
+        → IsFirstWithout job numbers t → s ≡ t }
+{}
+
 /// The canonical list has the steps of each statement, and no other: its block tasks, and one more where its pivots are tested. Of
 /// no statement it has none.
 pub fn steps_are_counted()
@@ -47,7 +68,7 @@ pub fn some_lists_are_worked_out()
 {}
 
 /// Some job has the steps by variants 3 and 2 that were worked by hand, and some operations the tasks by others: with rows done before
-/// columns, backward, and along two dimensions of which one is done first.
+/// columns, backward, and along two dimensions, of which one is done first or which go in two directions.
 pub fn some_variants_are_worked_out()
     ensures steps { (job : Job) × (issued_steps job 1 (3 ∷ 2 ∷ []) ≡ steps_by_columns) }
     ensures bordered { (op : Operation)
@@ -58,4 +79,6 @@ pub fn some_variants_are_worked_out()
         × (tasks_by op (1 ∷ 3 ∷ []) (variant_numbered (family_of op) 4) ≡ backward_tasks) }
     ensures paired { (op : Operation)
         × (tasks_by op (1 ∷ 3 ∷ []) (variant_numbered (family_of op) 5) ≡ paired_tasks) }
+    ensures cornered { (op : Operation)
+        × (tasks_by op (2 ∷ 3 ∷ []) (variant_numbered (family_of op) 13) ≡ corner_tasks) }
 {}

@@ -1,35 +1,46 @@
 //! The limit on the parts of a dimension.
 
 ghost use Rattle.std.specs.Prelude.{◌≡◌, ◌≤◌, ◌<◌, ◌^◌, ℕ, length, slice_index};
-ghost use Rattle.std.specs.Prelude.{EachIndex, IfNone, IfSome, IsErrOf, OnOk};
-ghost use Rattle.job_blocks.specs.BlockedJobs.{HasStatement, IsBlockedJob};
-ghost use Rattle.issue_list.specs.CanonicalSteps.{HasDimension, IsFirstLongOf, most_parts, parts_at};
+ghost use Rattle.std.specs.Prelude.{EachIndex, IfNone, IfOk, IfSome};
+ghost use Rattle.issue_list.specs.CanonicalSteps.{HasFewParts, IsFirstLong, most_parts};
 
-use crate::fault::IssueFault;
+use crate::variants::statement_count;
 use job_blocks::JobBlocks;
-use std::alloc::Global;
+use std::alloc::{AllocError, Global};
 
 const MOST_PARTS: u32 = 32;
 
-/// Tests that no dimension of statement s is cut into too many parts.
-pub(crate) fn test_statement(alloc: Global, blocks: &JobBlocks, s: u32) -> Result<(), IssueFault>
-    requires valid { IsBlockedJob blocks.now }
-    requires statement { HasStatement blocks.now s }
-    ensures few { OnOk result ((d : ℕ) → HasDimension blocks.now.job s d
-        → parts_at blocks.now.job blocks.now.b s d ≤ most_parts) }
-    ensures parts { (t d : ℕ) → IsErrOf result (IssueFault.TooManyParts t d)
-        → (t ≡ s) × IsFirstLongOf blocks.now.job blocks.now.b s d }
-    ensures no_count { IsErrOf result IssueFault.TooManySteps → ⊥ }
+/// A dimension of a statement: statements are numbered from 1, and dimensions from 0 as their operation declares them.
+#[derive(Clone, Copy, Debug, PartialEq, Eq)]
+pub(crate) struct StatementDim {
+    pub statement: u32,
+    pub dim: u32,
+}
+
+/// The first dimension that is cut into too many parts, of the first statement that has one.
+pub(crate) fn first_long(
+    alloc: Global,
+    blocks: &JobBlocks,
+) -> Result<Option<StatementDim>, AllocError>
+    ensures long { IfOk result (λ found. IfSome found (λ long.
+        IsFirstLong blocks.now.job blocks.now.b long.statement long.dim)) }
+    ensures few { IfOk result (λ found. IfNone found
+        (HasFewParts blocks.now.job blocks.now.b)) }
 {
-    let counts = blocks.counts(alloc, s)?;
-    match first_long(counts.as_slice()) {
-        Some(dim) => Err(IssueFault::TooManyParts { statement: s, dim }),
-        None => Ok(()),
+    for before in 0..statement_count(blocks) {
+        let counts = blocks.counts(alloc, before + 1)?;
+        if let Some(dim) = first_long_of(counts.as_slice()) {
+            return Ok(Some(StatementDim {
+                statement: before + 1,
+                dim,
+            }));
+        }
     }
+    Ok(None)
 }
 
 /// The first dimension that has too many parts, of dimensions that have so many parts.
-fn first_long(counts: &[u32]) -> Option<u32>
+fn first_long_of(counts: &[u32]) -> Option<u32>
     requires { length counts.now < 2 ^ 32 }
     ensures within { IfSome result (λ d. d < length counts.now) }
     ensures long { IfSome result (λ d. most_parts < slice_index counts.now d) }

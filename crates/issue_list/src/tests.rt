@@ -60,7 +60,17 @@ fn one_entry_has_one_step(rt: HostRuntime) -> Result<(), Fail> {
     let alloc = rt.alloc();
     let modulus = Modulus::new(7).expect(&rt, "7 is a modulus");
     let job = job(alloc, modulus)?;
-    let steps = canonical_steps(alloc, &job, 1)?;
+    let steps = issue(alloc, &job, 1, &Choice::First)?;
+    assert_eq!(rt; steps.len(), 1);
+    Ok(())
+}
+
+#[test]
+fn one_entry_has_one_step_by_its_third_variant(rt: HostRuntime) -> Result<(), Fail> {
+    let alloc = rt.alloc();
+    let modulus = Modulus::new(7).expect(&rt, "7 is a modulus");
+    let job = job(alloc, modulus)?;
+    let steps = issue(alloc, &job, 1, &Choice::Each(one(alloc, 3)?))?;
     assert_eq!(rt; steps.len(), 1);
     Ok(())
 }

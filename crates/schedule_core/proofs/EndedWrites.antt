@@ -1,17 +1,13 @@
 -- How many writes of a block have ended: before any event, after one more, and after all.
-use Rattle.std.proofs.Common.{◌≡◌, ℕ, zero, suc, ◌+◌, ◌<◌, ◌≤◌, inl, inr, Bool, true, false, cond, List, [], ◌∷◌, ◌++◌, refl, sym, ◌∙◌, ap, subst, arith}
-use Rattle.std.specs.Prelude.{◌==◌, ◌&&◌, ◌||◌}
+use Rattle.std.proofs.Common.{◌≡◌, ℕ, zero, suc, ◌+◌, ◌<◌, ◌≤◌, inl, inr, true, false, cond, List, [], ◌∷◌, ◌++◌, refl, sym, ◌∙◌, ap, subst, arith}
+use Rattle.std.specs.Prelude.{◌==◌, ◌&&◌}
 use Rattle.std.proofs.lemmas.Bool.{cases_Bool, cases_eq, eq-eqb, ne_eqb, and_right}
 use Rattle.dependence_queue.specs.declared.access.Access.{Access}
 use Rattle.schedule_core.specs.declared.event.Event.{Event}
 use Rattle.schedule_core.specs.declared.event.Event.TheVariants.{Start, Finish}
 use Rattle.schedule_core.specs.Schedules.{has_event, all_over, writes_upto, ended_writes}
-use Rattle.schedule_core.proofs.EventTests.{has-append}
+use Rattle.schedule_core.proofs.EventTests.{has-append, or-false, or-true, start-ends}
 use Rattle.schedule_core.proofs.ScheduleTests.{all-at}
-
-or-false : (p : Bool) → (p || false) ≡ p
-or-false true = refl
-or-false false = refl
 
 module _ (accesses : ℕ → Access) where
   pub ended-none : (x k : ℕ) → ended_writes accesses [] x k ≡ 0
@@ -27,9 +23,6 @@ module _ (accesses : ℕ → Access) where
       (ended-same es fs x k (λ s first within. same s first (omega arith))))
 
   -- a step begins
-  start-ends : (events : List Event) (t s : ℕ) → has_event (events ++ Start t ∷ []) (Finish s) ≡ has_event events (Finish s)
-  start-ends events t s = has-append events (Start t ∷ []) (Finish s) ∙ or-false (has_event events (Finish s))
-
   pub ended-start : (events : List Event) (t x k : ℕ) → ended_writes accesses (events ++ Start t ∷ []) x k ≡ ended_writes accesses events x k
   ended-start events t x k = ended-same (events ++ Start t ∷ []) events x k (λ s first within. start-ends events t s)
 
@@ -40,10 +33,6 @@ module _ (accesses : ℕ → Access) where
 
   finish-same : (events : List Event) (t : ℕ) → has_event (events ++ Finish t ∷ []) (Finish t) ≡ true
   finish-same events t = has-append events (Finish t ∷ []) (Finish t) ∙ (rw (eq-eqb t t refl) (or-true (has_event events (Finish t))))
-    where
-      or-true : (p : Bool) → (p || true) ≡ true
-      or-true true = refl
-      or-true false = refl
 
   pub ended-finish_other : (events : List Event) (t x k : ℕ) → ((accesses t).write == x) ≡ false
       → ended_writes accesses (events ++ Finish t ∷ []) x k ≡ ended_writes accesses events x k

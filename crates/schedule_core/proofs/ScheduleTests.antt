@@ -9,15 +9,11 @@ use Rattle.dependence_queue.specs.Conflicts.{conflicts}
 use Rattle.schedule_core.specs.declared.event.Event.{Event}
 use Rattle.schedule_core.specs.declared.event.Event.TheVariants.{Start, Finish}
 use Rattle.schedule_core.specs.Schedules.{is_event, has_event, times, event_step, IsEventOf, IsSchedule, are_over, is_ready, may_come, goes_on, is_begun, all_over, is_schedule}
-use Rattle.schedule_core.proofs.EventTests.{same-event, event-same, has-append, times-append, times-none, times-some, has-cut}
+use Rattle.schedule_core.proofs.EventTests.{and-true, same-event, event-same, has-append, times-append, times-none, times-some, has-cut}
 
 and-assoc : (p q r : Bool) → ((p && q) && r) ≡ (p && (q && r))
 and-assoc true q r = refl
 and-assoc false q r = refl
-
-and-true : (p : Bool) → (p && true) ≡ p
-and-true true = refl
-and-true false = refl
 
 -- an event of both lists or of one
 pub has-left : (xs ys : List Event) (e : Event) → has_event xs e ≡ true → has_event (xs ++ ys) e ≡ true

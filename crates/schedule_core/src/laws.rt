@@ -1,9 +1,11 @@
 //! What the definitions of schedules mean together. Each law is the contract of a function that does nothing.
 
-ghost use Rattle.std.specs.Prelude.{◌≡◌, ◌<◌, ◌≤◌, ◌-◌, ◌++◌, ◌∷◌, ◌&&◌, ◌↔◌, ℕ, List, [], IsTrue, false, true};
+ghost use Rattle.std.specs.Prelude.{◌≡◌, ◌<◌, ◌≤◌, ◌-◌, ◌*◌, ◌++◌, ◌∷◌, ◌&&◌, ◌↔◌, ℕ, List, [], IsTrue, false, true, length, map, sum};
+ghost use Rattle.std.specs.List.{range_with_len};
 ghost use Rattle.dependence_queue.specs.declared.access.Access.{Access};
 ghost use Rattle.dependence_queue.specs.Chains.{IsConflict};
 ghost use Rattle.dependence_queue.specs.Conflicts.{IsDirectEdge};
+ghost use Rattle.dependence_queue.specs.Edges.{count_into, edge_number, edges_of};
 ghost use Rattle.schedule_core.specs.declared.event.Event.{Event};
 ghost use Rattle.schedule_core.specs.declared.event.Event.TheVariants.{Finish, Start};
 ghost use Rattle.schedule_core.specs.Schedules.{IsBegun, IsSchedule, ended_writes, has_event, in_order, is_begun, is_schedule, may_come};
@@ -49,4 +51,16 @@ pub fn edges_tell_which_step_may_begin()
         → IsTrue (is_begun accesses n events) → (t : ℕ) → 0 < t → t ≤ n
         → has_event events (Start t) ≡ false → (IsTrue (may_come accesses n events (Start t))
         ↔ ((s : ℕ) → 0 < s → IsDirectEdge accesses s t → IsTrue (has_event events (Finish s)))) }
+{}
+
+/// The list of direct edges is as long as there are pairs of steps with a direct edge from the earlier to the later one: each
+/// edge is counted at the step that it goes into. So n steps have at most n * (n - 1) / 2 edges.
+pub fn direct_edges_are_counted()
+    ensures into { (accesses : List Access) → length (edges_of accesses)
+        ≡ sum (map (λ t. count_into (edges_of accesses) t) (range_with_len 1 (length accesses))) }
+    ensures pairs { (accesses : List Access) → length (edges_of accesses)
+        ≡ sum (map (λ t. sum (map (λ s. edge_number accesses s t)
+        (range_with_len 1 (length accesses)))) (range_with_len 1 (length accesses))) }
+    ensures few { (accesses : List Access)
+        → length (edges_of accesses) * 2 ≤ length accesses * (length accesses - 1) }
 {}

@@ -1,5 +1,5 @@
 use Rattle.operation_spec.proofs.WorkedOperations.{low, lu}
-use Rattle.issue_list.proofs.WorkedLists.{backward, bordered, by_columns, paired, right_looking, two_statements}
+use Rattle.issue_list.proofs.WorkedLists.{backward, bordered, by_columns, cornered, paired, right_looking, two_statements}
 use Rattle.issue_list.proofs.laws.some_variants_are_worked_out.Goals as goal
 
 pub returns-clause-steps : goal.returns-clause-steps
@@ -16,3 +16,6 @@ returns-clause-backward c = (low, backward)
 
 pub returns-clause-paired : goal.returns-clause-paired
 returns-clause-paired c = (low, paired)
+
+pub returns-clause-cornered : goal.returns-clause-cornered
+returns-clause-cornered c = (low, cornered)

@@ -1,0 +1,32 @@
+//! The commands.
+
+use issue_list::Choice;
+use variant_report::SelfWords;
+
+/// How a job is run and what is printed of it.
+#[derive(Debug, Drop)]
+pub struct RunWords {
+    /// The block size, 1 to 1,024.
+    pub block: u32,
+    /// How many workers run, 1.
+    pub workers: u32,
+    /// The variant of each statement. Given numbers are at least one, each at least 1.
+    pub choice: Choice,
+    /// Whether the trace follows the matrices.
+    pub trace: bool,
+}
+
+/// What the words ask for.
+#[derive(Debug, Drop)]
+pub enum Command {
+    /// `derive`: prints the family of each operation of the input's job.
+    Derive,
+    /// `verify`: checks the matrices behind the input's job.
+    Verify,
+    /// `make N M SEED`: prints the job that is generated for size N (0 to 1,024), modulus M (from 2 on) and a seed.
+    Make { n: u32, m: u32, seed: u32 },
+    /// `run --block B --workers K`, then perhaps `--variants V,V`, then perhaps `--trace`: runs the job of the input.
+    Run { words: RunWords },
+    /// `selfrun N M SEED --block B --workers K`: runs the generated job and prints a summary.
+    SelfRun { words: SelfWords },
+}
