@@ -13,12 +13,24 @@ TRIANGLES = ["lower", "unitlower", "upper", "unitupper"]
 class Row:
     """A kernel on n by n matrices: its words, how many multiply-adds a run counts, and the rate that is asked of it."""
 
+    each = None
+
     def __init__(self, words, n=SIZE, count=1.0, asked=None, of="update"):
         self.words, self.n, self.asked, self.of = words.split(), n, asked, of
         self.name = words if n == SIZE else f"{words}, n = {n}"
         self.adds = n**3 * count
         # Small matrices go so often that a run takes as long as one of a great matrix.
         self.repeats = max(1, round(0.3e9 / self.adds))
+
+
+class Inverses(Row):
+    """The inverses of n pivots, each of which takes as long as hundreds of multiply-adds."""
+
+    each = "inverse"
+
+    def __init__(self, words, n=SIZE):
+        super().__init__(words, n)
+        self.adds, self.repeats = n, max(1, round(1e6 / n))
 
 
 def rows_of():
@@ -35,6 +47,7 @@ def rows_of():
     rows += [Row("factor_lu", count=1 / 3, asked=0.3), Row("factor_ldl", count=1 / 6, asked=0.25)]
     rows += [Row("update", n=n, asked=share) for n, share in ((64, 0.45), (128, 0.65), (256, 0.8))]
     rows += [Row(name, n=64, count=count) for name, count in (("factor_lu", 1 / 3), ("factor_ldl", 1 / 6))]
+    rows += [Inverses("pivots lower")]
     return rows
 
 
@@ -61,6 +74,9 @@ def print_table(rows, rate, modulus):
     print(f"modulo {modulus}, load {os.getloadavg()[0]:.1f}")
     print(f"{'kernel':36} {'G/s':>7} {'units':>7} {'of update':>9} {'asked':>10}")
     for row in rows:
+        if row.each:
+            print(f"{row.name:36} {1 / rate[row]:7.0f} ns for each {row.each}")
+            continue
         units, share = rate[row] / unit, rate[row] / update
         asked = ""
         if row.asked:

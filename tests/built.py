@@ -16,19 +16,26 @@ class Built:
         first statement whose form isn't `X = W`.
     verify: the command `verify`; else its words are bad.
     block_sizes: `run` works by blocks, with `refused TooManyParts ..` and `refused TooManySteps`.
+    variants: `run` takes `--variants` and `--trace`, with `refused VariantCount ..` and `refused NoVariant ..`; else words
+        that have them are bad.
+    generator: the commands `make` and `selfrun`; else their words are bad.
     """
 
     derive_every_form: bool = False
     run_every_form: bool = False
     verify: bool = False
     block_sizes: bool = False
+    variants: bool = False
+    generator: bool = False
 
     def has(self, command):
         """Whether the program has the command that these words spell; else the words are bad."""
+        if command.parts.get("workers", 1) != 1:
+            return False
         if command.name == "run":
-            return command.parts["workers"] == 1 and "variants" not in command.parts \
-                and "--trace" not in command.parts
-        return command.name == "derive" or (command.name == "verify" and self.verify)
+            return self.variants or not {"variants", "--trace"} & set(command.parts)
+        commands = {"derive": True, "verify": self.verify, "make": self.generator, "selfrun": self.generator}
+        return commands.get(command.name, False)
 
     def meets(self, needs):
         """Whether each flag named is set, and each `without FLAG` isn't."""
@@ -39,7 +46,7 @@ class Built:
 FLAGS = tuple(field.name for field in fields(Built))
 
 # What the built program has today.
-BUILT = Built(derive_every_form=True, run_every_form=True, verify=True, block_sizes=True)
+BUILT = Built(derive_every_form=True, run_every_form=True, verify=True, block_sizes=True, variants=True, generator=True)
 
 # Everything that the reference can answer, whether the program has it or not.
 WHOLE = Built(**{flag: True for flag in FLAGS})

@@ -23,6 +23,12 @@ class Case:
     needs: list = field(default_factory=list)
 
 
+def made_case(case):
+    """A case that is given as a function that makes it, or whose input is; else the same."""
+    case = case() if callable(case) else case
+    return Case(case.name, case.words, case.data(), case.streams, case.needs) if callable(case.data) else case
+
+
 def decoded(word):
     """A word as str where it is UTF-8, else as bytes."""
     try:

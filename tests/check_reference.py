@@ -13,16 +13,24 @@ sys.path.insert(0, str(HERE))
 
 from built import BUILT, WHOLE  # noqa: E402
 from case import load  # noqa: E402
-from generators.limits import LU, MUL  # noqa: E402
+from generators.chains import GREAT_PRIMES, chain_job  # noqa: E402
+from generators.limits import LU, MUL, identity, matrix, text  # noqa: E402
 from generators.operations import FORMS, operation, operation_rows  # noqa: E402
 from generators.spelling import plain  # noqa: E402
+from generators.variants import numbers_of  # noqa: E402
 from reference.due import due  # noqa: E402
+from reference.edges import Access, accesses, edges_by_blocks, edges_by_pairs  # noqa: E402
 from reference.families import FILTER_LIMIT, counts_of, filtered, rules, searched, splits  # noqa: E402
+from reference.generated_job import generated_text, sums  # noqa: E402
+from reference.issue import chosen_variants, family_of, issue  # noqa: E402
 from reference.job_text import read_job  # noqa: E402
-from reference.model import Job, Matrix, Statement  # noqa: E402
+from reference.meaning import meaning  # noqa: E402
+from reference.model import Factor, Job, Matrix, Operand, Operation, Statement  # noqa: E402
 from reference.scanner import scan  # noqa: E402
-from reference.steps import step_count  # noqa: E402
-from reference.tasks import Task, indices, inner_dim, needs, tasks  # noqa: E402
+from reference.steps import part_counts, step_count  # noqa: E402
+from reference.structures import TRIANGULAR, WORK_STRUCTURES  # noqa: E402
+from reference.tasks import Task, has_pivots, indices, inner_dim, needs, tasks  # noqa: E402
+from replay import Replay  # noqa: E402
 
 LDL = "operation ldl\ndims n\nwork W lower n n\nequation ldl X = W\nend\n"
 LOW = "operation low\ndims n m\nwork W general n m\nknown T lower n n\nequation T * X = W\nend\n"
@@ -160,6 +168,117 @@ def check_steps():
             assert step_count(job, statement, 2) == known(p, q, r), (block, parts)
 
 
+def bare_operations():
+    """Every operation without terms but those of the form `X = W`, up to names: each structure and prime of T and of U, each
+    structure of W, and a W of one dimension or of two."""
+    for form, t, primed, work in cartesian(("left", "right"), TRIANGULAR, (False, True), (None, *WORK_STRUCTURES)):
+        side = 0 if form == "left" or work else 1
+        yield Operation("q", ["n", "m"][:1 if work else 2], Operand("W", work or "general", 0, 0 if work else 1),
+                        [Operand("T", t, side, side)], form, t=Factor(0, primed))
+    for t, primed, u, also_primed, cols in cartesian(TRIANGULAR, (False, True), TRIANGULAR, (False, True), (0, 1)):
+        yield Operation("q", ["n", "m"][:cols + 1], Operand("W", "general", 0, cols),
+                        [Operand("T", t, 0, 0), Operand("U", u, cols, cols)], "sylvester",
+                        t=Factor(0, primed), u=Factor(1, also_primed))
+    yield Operation("q", ["n"], Operand("W", "general", 0, 0), [], "lu")
+    yield Operation("q", ["n"], Operand("W", "lower", 0, 0), [], "ldl")
+
+
+def check_no_empty_family():
+    """Each operation has a variant. Without terms that is tried on all of them. Terms change nothing: put all terms of each
+    block with its solve into a set that keeps the rules, and it keeps them. For `X = R` the tasks that are done on all sides
+    are such a set. So nothing is refused for want of variants where none is named."""
+    assert all(family_of(made).at(1) for made in bare_operations())
+    rng = random.Random(4)
+    assert all(family_of(operation(rng, "q", FORMS[number % len(FORMS)])).at(1) for number in range(300))
+
+
+def check_issue():
+    """By each of some variants the steps of a statement are the one of its pivots and then all its tasks, each once and
+    behind those that it needs; and the direct edges that are found block by block are those of all pairs."""
+    for number in range(10):
+        rng = random.Random(f"issue:{number}")
+        job = chain_job(rng, 101, (3, 4, 5), 0.1, 0.6)
+        for block in (1, 2, 3):
+            chosen = chosen_variants(job, numbers_of(job, number, rng))
+            steps = issue(job, block, chosen)
+            for at, statement in enumerate(job.statements, 1):
+                made = statement.operation
+                own = [step.task for step in steps if step.statement == at]
+                first, rest = own[:has_pivots(made)], own[has_pivots(made):]
+                every = tasks(made, part_counts(job, statement, block))
+                assert first == [None] * len(first) and sorted(rest) == sorted(every)
+                if len(rest) < 100:
+                    assert not any(needs(made, a, b) for place, a in enumerate(rest) for b in rest[place:])
+            assert [step.statement for step in steps] == sorted(step.statement for step in steps)
+            use = accesses(job, block, steps)
+            assert not any(one.write in one.reads for one in use)
+            if len(use) < 250:
+                assert edges_by_pairs(use) == edges_by_blocks(use)
+
+
+def check_replay():
+    """A job that is done by its steps, of which each sees just the blocks that it is said to read, comes to what it means,
+    by any variants and under any block size."""
+    for number in range(12):
+        rng = random.Random(f"replay:{number}")
+        job = chain_job(rng, rng.choice(GREAT_PRIMES), rng.choice(((3,), (4, 5), (2, 3, 6))), 0, 0.6)
+        for block in (1, 2, 3):
+            replay = Replay(job, block)
+            replay.run(issue(job, block, chosen_variants(job, numbers_of(job, number, rng))))
+            assert replay.cells == [matrix.cells for matrix in meaning(job)]
+
+
+def check_edges():
+    """Direct edges of lists of steps on a few blocks."""
+    def found(*steps):
+        use = [Access(write, frozenset(reads)) for write, reads in steps]
+        assert edges_by_pairs(use) == edges_by_blocks(use)
+        return {pair: " ".join(kinds) for pair, kinds in edges_by_pairs(use).items()}
+
+    assert found(("a", ""), ("b", "a"), ("a", "b")) == {(1, 2): "flow", (1, 3): "output", (2, 3): "flow anti"}
+    assert found(("a", ""), ("a", ""), ("b", "a"), ("c", "a"), ("a", "")) == {
+        (1, 2): "output", (2, 3): "flow", (2, 4): "flow", (2, 5): "output", (3, 5): "anti", (4, 5): "anti"}
+    assert found(("b", "a"), ("a", ""), ("a", ""), ("c", "ab")) == {
+        (1, 2): "anti", (1, 4): "flow", (2, 3): "output", (3, 4): "flow"}
+    assert found(("a", "b"), ("b", "a"), ("a", "b")) == {(1, 2): "flow anti", (1, 3): "output", (2, 3): "flow anti"}
+    assert found(("a", "c"), ("b", "c")) == {} == found()
+    for number in range(60):
+        rng = random.Random(f"edges:{number}")
+        blocks = "abcdefg"[:rng.randrange(1, 8)]
+        steps = [(rng.choice(blocks), rng.sample(blocks, rng.randrange(min(4, len(blocks) + 1)))) for _ in range(40)]
+        found(*((write, set(reads) - {write}) for write, reads in steps))
+
+
+def check_traces():
+    """Known numbers of steps and edges, and the kinds of the edges."""
+    def trace(data, block, numbers):
+        job = read_job(scan(data))
+        steps = issue(job, block, chosen_variants(job, numbers))
+        edges = edges_by_pairs(accesses(job, block, steps))
+        return len(steps), len(edges), [kind for kinds in edges.values() for kind in kinds]
+
+    shapes = {"A": (2, 2), "B": (2, 2), "C": (2, 2), "D": (2, 1), "E": (1, 2)}
+    data = text(MUL, *(matrix(name, *shape) for name, shape in shapes.items()), "do mul C A B\ndo mul A D E\n")
+    count, edges, kinds = trace(data, 1, None)
+    assert (count, edges, kinds.count("anti"), kinds.count("output"), kinds.count("flow")) == (12, 12, 8, 4, 0)
+    for rows, block, known in ((4, 2, (5, 5)), (3, 2, (5, 5)), (3, 1, (14, 21))):
+        assert trace(text(LU, identity("A", rows), "do lu A\n"), block, [5])[:2] == known
+
+
+def check_sums():
+    """What `selfrun` prints is what the meaning of the job that `make` prints comes to; known numbers of steps."""
+    rng = random.Random(5)
+    for number in range(40):
+        n, m = rng.randrange(9), rng.choice((2, 3, 6, 101, 65537, 4294967291, 4294967295))
+        job = read_job(scan(generated_text(n, m, number * 7919).encode("ascii")))
+        matrices = meaning(job)
+        assert matrices[1].cells == job.matrices[0].cells
+        assert sums(n, m, number * 7919) == tuple(sum(map(sum, matrices[at].cells)) % m for at in job.prints)
+    outputs = [due(["selfrun", "256", "4294967291", "1", "--block", block, "--workers", "1"], b"", WHOLE)[1].split(b"\n")
+               for block in ("32", "64")]
+    assert [lines[1] for lines in outputs] == [b"tasks 985", b"tasks 141"] and outputs[0][2:] == outputs[1][2:]
+
+
 def check_operations():
     """A printed operation is read as the same one."""
     rng = random.Random(2)
@@ -179,6 +298,7 @@ def check_kept():
 
 
 if __name__ == "__main__":
-    for check in (check_families, check_searches, check_rules, check_steps, check_operations, check_kept):
+    for check in (check_families, check_searches, check_rules, check_steps, check_no_empty_family, check_issue, check_replay,
+                  check_edges, check_traces, check_sums, check_operations, check_kept):
         check()
     print("the reference agrees with what is known beforehand")

@@ -8,7 +8,7 @@ from generators.faulty import PLANTERS, faulty
 from generators.jobs import chained_job, job_rows, random_job
 from generators.operations import FORMS, operation, operation_rows
 from generators.spelling import Row, fresh_name, spelled
-from generators.words import any_words, block_words, run_words
+from generators.words import any_variant_words, any_words, block_words, generator_words, run_words, variant_words
 
 SCALES = ("small",) * 8 + ("middle",) * 10 + ("large",) * 2 + ("great",)
 KINDS = tuple(PLANTERS)
@@ -22,7 +22,10 @@ def run_case(rng, built, _ordinal):
         maker = chained_job(rng, scale)
     else:
         maker = random_job(rng, scale, built.run_every_form, statements)
-    return block_words(rng, maker.job), spelled(rng, job_rows(maker.job))
+    words = block_words(rng, maker.job)
+    if built.variants:
+        words += variant_words(rng, maker.job, int(words[2]))
+    return words, spelled(rng, job_rows(maker.job))
 
 
 def derive_case(rng, built, _ordinal):
@@ -46,6 +49,8 @@ def faulty_case(rng, built, ordinal):
     if rng.random() < 0.4:
         kinds.append(rng.choice(KINDS))
     commands = [run_words(rng), ["derive"]] + ([["verify"]] if built.verify else [])
+    if built.variants:
+        commands[0] += any_variant_words(rng, 1)
     return rng.choice(commands), faulty(rng, job_rows(maker.job), kinds)
 
 
@@ -63,15 +68,29 @@ def verify_case(rng, built, _ordinal):
     return ["verify"], verify_input(rng, maker.job, rng.choice(("none", "entry", "garbled")))
 
 
-# How many of twenty cases are of each sort.
+def generator_case(rng, _built, _ordinal):
+    """The job that is made from a seed, printed or run."""
+    return generator_words(rng), rng.choice((b"", b"@", b"flame 1\n"))
+
+
+# How many of some twenty cases are of each sort.
 SORTS = ((run_case, 8), (faulty_case, 6), (derive_case, 4), (words_case, 2))
 SORTS_WITH_VERIFY = ((run_case, 7), (faulty_case, 5), (derive_case, 3), (words_case, 2), (verify_case, 3))
+SORTS_WITH_GENERATOR = ((run_case, 9), (faulty_case, 5), (derive_case, 3), (words_case, 2), (verify_case, 3),
+                        (generator_case, 1))
+
+
+def sorts_of(built):
+    """The sorts, each with how many of its cases there are."""
+    if built.generator:
+        return SORTS_WITH_GENERATOR
+    return SORTS_WITH_VERIFY if built.verify else SORTS
 
 
 def generated_case(seed, index, built):
     """The case of this number."""
     rng = random.Random(f"{seed}:{index}")
-    sorts = [sort for sort, count in (SORTS_WITH_VERIFY if built.verify else SORTS) for _ in range(count)]
+    sorts = [sort for sort, count in sorts_of(built) for _ in range(count)]
     sort = sorts[index % len(sorts)]
     # The how manieth case of its sort this is.
     ordinal = index // len(sorts) * sorts.count(sort) + index % len(sorts) - sorts.index(sort)

@@ -2,8 +2,8 @@
 
 A program may always answer that memory ran out, so a body that gives up on some inputs breaks no contract. Each entry
 of BODIES says on which inputs such a body gives up (or errs otherwise); this script counts the generated cases of
-`tests/run.sh` among them, and of the fixed ones those of families, sizes, blocks, chains and pivots, names the first
-ones, and ends with 1 where a body has none.
+`tests/run.sh` among them, and of the fixed ones those of families, sizes, blocks, chains, pivots, variants, words and the
+generator, names the first ones, and ends with 1 where a body has none. `planted_steps.py` has those that err in steps.
 
     python3 tests/planted.py [--count N] [--whole]
 """
@@ -20,14 +20,18 @@ HERE = Path(__file__).resolve().parent
 sys.path.insert(0, str(HERE))
 
 from built import BUILT, WHOLE  # noqa: E402
-from case import Case  # noqa: E402
+from case import made_case  # noqa: E402
 from generate import generated_case  # noqa: E402
 from generators.blocks import block_cases  # noqa: E402
 from generators.chains import chain_cases  # noqa: E402
 from generators.families import family_cases  # noqa: E402
+from generators.generated import generated_cases  # noqa: E402
 from generators.operations import FORMS  # noqa: E402
 from generators.pivots import pivot_cases  # noqa: E402
 from generators.sizes import size_cases  # noqa: E402
+from generators.spellings import spelling_cases  # noqa: E402
+from generators.variants import variant_cases  # noqa: E402
+from planted_steps import STEP_BODIES  # noqa: E402
 from reference.due import due  # noqa: E402
 from reference.faults import Fault  # noqa: E402
 from reference.job_text import read_job  # noqa: E402
@@ -271,17 +275,14 @@ BLOCK_BODIES |= {f"a bad pivot of the form {form} behind the first block": mispl
 
 
 def chosen_cases(built, count):
-    """The generated cases by their numbers, and the fixed ones of families, sizes, blocks, chains and pivots, each with what
-    is due if it is known."""
+    """The generated cases by their numbers, and the fixed ones of families, sizes, blocks, chains and pivots, and by what is
+    built of variants, words and the generator, each with what is due if it is known."""
     drawn = [(partial(generated_case, "1", index, built), None) for index in range(count)]
-    fixed = [*family_cases(), *block_cases(), *chain_cases(), *pivot_cases()]
-    return drawn + [(partial(same, case), None) for case in fixed] + [
-        (partial(same, case), known) for case, known in size_cases()]
-
-
-def same(case):
-    """A fixed case, with its input made."""
-    return Case(case.name, case.words, case.data()) if callable(case.data) else case
+    fixed = [*family_cases(), *block_cases(), *chain_cases(), *pivot_cases(), *spelling_cases()]
+    known = [*size_cases(), *(variant_cases(built) if built.variants else ()),
+             *(generated_cases(built) if built.generator else ())]
+    return drawn + [(partial(made_case, case), None) for case in fixed] + [
+        (partial(made_case, case), due_for_it) for case, due_for_it in known]
 
 
 def seen(built, chosen):
@@ -297,7 +298,7 @@ def seen(built, chosen):
     except Fault:
         pass
     one = Seen(case.words, case.data, status, output, job)
-    bodies = {**BODIES, **FORM_BODIES, **BLOCK_BODIES}
+    bodies = {**BODIES, **FORM_BODIES, **BLOCK_BODIES, **(STEP_BODIES if built.variants and built.generator else {})}
     return case.name, [name for name, gives_up in bodies.items() if gives_up(one)]
 
 
@@ -313,7 +314,8 @@ def main():
         found = list(pool.map(seen, [built] * len(cases), cases, chunksize=10))
     missed = 0
     bodies = list(BODIES) + (list(FORM_BODIES) if built.run_every_form and built.verify else [])
-    for body in bodies + (list(BLOCK_BODIES) if built.block_sizes else []):
+    bodies += list(BLOCK_BODIES) if built.block_sizes else []
+    for body in bodies + (list(STEP_BODIES) if built.variants and built.generator else []):
         cases = [name for name, refused in found if body in refused]
         missed += not cases
         print(f"{body}: {len(cases)} cases, {', '.join(cases[:3])}")

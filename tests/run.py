@@ -17,18 +17,21 @@ HERE = Path(__file__).resolve().parent
 sys.path.insert(0, str(HERE))
 
 from built import BUILT, WHOLE  # noqa: E402
-from case import Case, encoded, load, save  # noqa: E402
+from case import Case, encoded, load, made_case, save  # noqa: E402
 from generate import generated_case  # noqa: E402
 from generators.blocks import block_cases  # noqa: E402
 from generators.chains import chain_cases  # noqa: E402
 from generators.cuts import cut_cases  # noqa: E402
 from generators.documents import document_cases  # noqa: E402
 from generators.families import family_cases  # noqa: E402
+from generators.generated import generated_cases  # noqa: E402
 from generators.grids import grid_cases  # noqa: E402
 from generators.limits import limit_cases  # noqa: E402
 from generators.pivots import pivot_cases  # noqa: E402
 from generators.sizes import size_cases  # noqa: E402
+from generators.spellings import spelling_cases  # noqa: E402
 from generators.streams import stream_cases  # noqa: E402
+from generators.variants import turned, variant_cases  # noqa: E402
 from generators.words import words_under  # noqa: E402
 from reference.due import due  # noqa: E402
 
@@ -110,6 +113,23 @@ def other_blocks(folder):
     return [block for block in (2, 3, 32, 1024) if block > int(case.words[2])]
 
 
+def kept_by_variants(program, built, folder, turn):
+    """Runs the job of a kept case by other variants, by which its matrices don't change, and with its trace."""
+    case, status, output = load(folder)
+    least = int(case.words[2])
+    other = turned(f"kept: {case.name}", case.data, turn, [block for block in (least, 2, 3) if block >= least], turn == 0)
+    found_status, found = due(other.words, other.data, built)
+    if found_status != status or not found.startswith(output):
+        return f"FAILED {other.name}: the reference answers {found_status} {beginning(found)}"
+    return compared(program, other, found_status, found)
+
+
+def is_outcome(folder):
+    """Whether a kept case is a run whose job is done or fails."""
+    case, status, _ = load(folder)
+    return status in (0, 4) and case.words[:1] == ["run"] and len(case.words) == 5
+
+
 def generated(program, built, seed, index):
     """Runs a generated case, for which the reference says what is due."""
     try:
@@ -121,20 +141,26 @@ def generated(program, built, seed, index):
 
 @lru_cache
 def fixed_cases(built):
-    """The cases that are the same in every run, each with the answer that is due, a function that makes it, or None
-    where the reference says it; made once, before the processes of the pool begin. Great ones come first."""
+    """The cases that are the same in every run, each a case or a function that makes it, with the answer that is due, a
+    function that makes it, or None where the reference says it; made once, before the processes of the pool begin. Great
+    ones come first."""
     cases = [*limit_cases(), *block_cases(), *family_cases(), *grid_cases(built), *pivot_cases(), *chain_cases(),
-             *cut_cases(built)]
-    return list(size_cases()) + [(case, None) for case in cases] + list(stream_cases()) + list(document_cases())
+             *cut_cases(built), *spelling_cases()]
+    by_variants = list(variant_cases(built)) if built.variants else []
+    made = list(generated_cases(built)) if built.generator else []
+    return list(size_cases()) + by_variants + made + [(case, None) for case in cases] + list(stream_cases(built)) + list(
+        document_cases())
 
 
 def fixed(program, built, number):
     """Runs a fixed case."""
     case, known = fixed_cases(built)[number]
-    if callable(case.data):
-        case = Case(case.name, case.words, case.data())
-    known = known() if callable(known) else known
-    return compared(program, case, *(known or due(case.words, case.data, built)))
+    try:
+        case = made_case(case)
+        known = known() if callable(known) else known
+        return compared(program, case, *(known or due(case.words, case.data, built)))
+    except Exception as wrong:  # So is an error that a case that is generated meets.
+        return f"FAILED {getattr(case, 'name', case)}: {type(wrong).__name__}: {wrong}"
 
 
 def behind_script(program):
@@ -156,6 +182,8 @@ def all_cases(arguments, built):
     same = [(fixed, built, number) for number in range(len(fixed_cases(built)))]
     drawn = [(generated, built, arguments.seed, index) for index in range(arguments.count)]
     others = [(kept_under, folder, block) for folder in ready for block in other_blocks(folder)]
+    if built.variants:
+        others += [(kept_by_variants, built, folder, turn) for folder in ready if is_outcome(folder) for turn in (0, 1)]
     return same + drawn + [(kept, folder) for folder in ready] + others
 
 

@@ -104,6 +104,12 @@ def step_job(made, steps):
                 f"do q {' '.join(names)}\nprint M0\n")
 
 
+def step_operation(number):
+    """The form and the operation of one of these jobs."""
+    form = FORMS[number % len(FORMS)]
+    return form, operation(random.Random(f"steps:{number}"), "q", form, terms=1 + number // len(FORMS))
+
+
 def solve_text(form, structure):
     """The text of an operation that solves from the left, or from the right, by a factor of this structure."""
     dim, equation = ("n", "T * X = W") if form == "left" else ("m", "X * T = W")
@@ -128,8 +134,7 @@ def steps():
     """Just as many steps as there may be, and one more, with a statement of each form among them; the step for the
     pivots is counted."""
     for number in range(STEP_JOBS):
-        form = FORMS[number % len(FORMS)]
-        made = operation(random.Random(f"steps:{number}"), "q", form, terms=1 + number // len(FORMS))
+        form, made = step_operation(number)
         for more in (0, 1):
             yield f"{form} {number} among {STEP_LIMIT + more} steps", RUN, partial(step_job, made, STEP_LIMIT + more)
     rest = filler(STEP_LIMIT - square_steps(operation_of(UNIT)))

@@ -24,6 +24,8 @@ GREATEST = 1024
 # The rows of factors that are multiplied again, which takes the program some time.
 LESS = 300
 FACTORS = (128, 129)
+# Rows of systems whose equations go in groups of twelve and by threes, with none, one or two left; and on each side of a buffer.
+GROUPS = (12, 13, 14, 32, 33)
 INNER = (204, 205, 1024)
 # Rows that go in two parts, each greater than a buffer holds.
 FAR = (258, 1024)
@@ -100,6 +102,9 @@ def makers():
         yield f"sylvester of {n} columns", n, partial(sylvester, 2, n)
         for form in ("lu", "ldl"):
             yield f"{form} of {n} rows", n, partial(factor_job, form, n)
+    for n in GROUPS:
+        yield f"left of {n} rows, upwards", n, partial(solve, "left", "unitupper", n, 3)
+        yield f"right of {n} columns", n, partial(solve, "right", "lower", 3, n)
     for structure, other in (("unitlower", "lower"), ("diagonal", "upper")):
         yield f"left of {FAR[0]} rows, {structure}", FAR[0], partial(solve, "left", structure, FAR[0], 2)
         yield f"right of {FAR[0]} columns, {other}", FAR[0], partial(solve, "right", other, 2, FAR[0])

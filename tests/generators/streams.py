@@ -9,13 +9,14 @@ from case import Case
 from .limits import LU, MUL, RUN, identity, matrix, text
 
 
-def stream_cases():
+def stream_cases(built):
     """Each case with the status and the output that are due; None where the reference says them."""
     job = text(MUL, "".join(matrix(name, 2, 2, "1") for name in "ABC"), "do mul C A B\nprint C\n")
-    for words in (RUN, ["derive"]):
-        yield Case(f"stream: {words[0]} of a folder", words, job, streams="unreadable"), (1, b"")
-        yield Case(f"stream: {words[0]} to a full device", words, job, streams="unwritable"), (6, b"")
-        yield Case(f"stream: {words[0]} in pieces", words, job, streams="pieces"), None
+    for words in (RUN, ["derive"], *([[*RUN, "--trace"], [*RUN, "--variants", "54"]] if built.variants else [])):
+        named = " ".join(words[:1] + words[5:])
+        yield Case(f"stream: {named} of a folder", words, job, streams="unreadable"), (1, b"")
+        yield Case(f"stream: {named} to a full device", words, job, streams="unwritable"), (6, b"")
+        yield Case(f"stream: {named} in pieces", words, job, streams="pieces"), None
     yield Case("stream: bad words, input of a folder", ["x"], b"", streams="unreadable"), (2, b"bad words\n")
     yield Case("stream: bad words to a full device", ["x"], b"", streams="unwritable"), (6, b"")
     yield Case("stream: a refusal to a full device", RUN, b"flame 2\n", streams="unwritable"), (6, b"")

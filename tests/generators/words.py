@@ -1,5 +1,8 @@
 """Words, good and bad."""
 
+from reference.issue import family_of
+from reference.steps import part_counts, steps_of
+
 BAD_NUMBERS = ("0", "01", "+1", "-1", " 1", "1 ", "1.0", "", "x", "1025", "4294967297", "18446744073709551617",
                "9" * 400, "1_0", "0x1", "\u0661", "\uff11", "1\t", "1,1", "1e1")
 # Small ones more often, since they cut into many parts.
@@ -9,6 +12,8 @@ BLOCKS = (1,) * 8 + (2,) * 3 + (3, 3, 4, 5, 7, 8, 9, 10, 16, 31, 32, 33, 64, 99,
 
 # How many parts a dimension of a statement may have.
 PARTS = 32
+# Of so many steps a trace is printed; the reference takes a second for ten times as many.
+TRACED = 2000
 
 
 def run_words(rng):
@@ -32,6 +37,44 @@ def block_words(rng, job):
 def words_under(block):
     """The words of a run under this block size."""
     return ["run", "--block", str(block), "--workers", "1"]
+
+
+def variant_words(rng, job, block):
+    """Variants for the statements of a job, at times one too few or too many, or one that isn't there; and perhaps the
+    trace, where it isn't too long."""
+    counts = [family_of(statement.operation).count() for statement in job.statements]
+    numbers = [rng.choice((1, count, rng.randrange(1, count + 1), rng.randrange(1, count + 1))) for count in counts]
+    chance = rng.random()
+    if chance < 0.04:
+        numbers.append(rng.choice((1, 4294967295)))
+    elif chance < 0.08:
+        numbers = numbers[1:]
+    elif chance < 0.12 and numbers:
+        at = rng.randrange(len(numbers))
+        numbers[at] = rng.choice((counts[at] + 1, counts[at] + 7, 4294967295))
+    words = ["--variants", ",".join(map(str, numbers))] if numbers and rng.random() < 0.75 else []
+    is_short = all(max(part_counts(job, statement, block)) <= PARTS for statement in job.statements) and (
+        steps_of(job, block) <= TRACED)
+    return words + (["--trace"] if is_short and rng.random() < 0.6 else [])
+
+
+def any_variant_words(rng, statements):
+    """Variants for about so many statements, whatever their operations are, and perhaps the trace."""
+    numbers = ",".join(str(rng.choice((1, 1, 2, 3, 50))) for _ in range(rng.choice((1, statements, statements + 1))))
+    return rng.choice(([], ["--variants", numbers], ["--trace"], ["--variants", numbers, "--trace"]))
+
+
+def generator_words(rng):
+    """The words of `make` or `selfrun`: any seed and modulus, and a size that may be cut into few enough parts."""
+    n = rng.choice((0, 1, 2, 3, 4, 5, 6, 7, 9, 12, 17, 31, 32, 33, 40, 64, 65, 100, rng.randrange(200)))
+    m = rng.choice((2, 3, 4, 6, 101, 65536, 65537, 4294967291, 4294967295, rng.randrange(2, 4294967296)))
+    seed = rng.choice((0, 1, 65536, 65537, 4294967295, rng.randrange(4294967296)))
+    words = [str(number) for number in (n, m, seed)]
+    if rng.random() < 0.4:
+        return ["make", *words]
+    least = max(1, -(-n // PARTS))
+    block = rng.choice((least, max(1, least - 1), least + 1, max(1, n // 3), max(1, n), n + 1))
+    return ["selfrun", *words, "--block", str(block), "--workers", "1"]
 
 
 def other_commands(rng):

@@ -2,12 +2,15 @@
 
 from .families import family_text
 from .faults import Fault, Refusal
+from .generated_job import generated_text, summary_text
+from .issue import chosen_variants
 from .job_text import read_after, read_job
 from .matrix_text import matrix_text
 from .meaning import first_difference, meaning
 from .model import BadPivot
 from .scanner import before, scan
 from .steps import refuse_too_many
+from .trace_text import trace_text
 from .words import read_words
 
 INPUT_LIMIT = 67_108_864
@@ -19,9 +22,12 @@ def due(words, data, built):
     if command is None or not built.has(command):
         return 2, b"bad words\n"
     try:
-        if len(data) > INPUT_LIMIT:
+        if command.name in WITHOUT_INPUT:
+            status, text = WITHOUT_INPUT[command.name](command)
+        elif len(data) > INPUT_LIMIT:
             raise Refusal("TooLong")
-        status, text = COMMANDS[command.name](command, scan(data), built)
+        else:
+            status, text = COMMANDS[command.name](command, scan(data), built)
     except (Fault, Refusal) as refused:
         status, text = 3, refused.text() + "\n"
     return status, text.encode("ascii")
@@ -44,18 +50,21 @@ def refuse_other_families(operation):
 
 
 def run(command, text, built):
-    """The printed matrices of a job, or its first bad pivot."""
+    """The printed matrices of a job and perhaps its trace, or its first bad pivot."""
     job = read_job(text)
     if not built.run_every_form:
         for number, statement in enumerate(job.statements, 1):
             if statement.operation.form != "assign":
                 raise Refusal(f"NotBuilt statement {number}")
+    if built.variants:
+        chosen = chosen_variants(job, command.parts.get("variants"))
     if built.block_sizes:
         refuse_too_many(job, command.parts["block"])
     matrices = meaning(job)
     if isinstance(matrices, BadPivot):
         return 4, "no inverse statement {} row {} column {}\n".format(*matrices)
-    return 0, "".join(matrix_text(job.names[number], matrices[number]) for number in job.prints)
+    trace = trace_text(job, command.parts["block"], chosen) if "--trace" in command.parts else ""
+    return 0, "".join(matrix_text(job.names[number], matrices[number]) for number in job.prints) + trace
 
 
 def verify(_command, text, _built):
@@ -68,4 +77,16 @@ def verify(_command, text, _built):
     return 0, f"verified {len(job.statements)}\n"
 
 
+def make(command):
+    """The generated job."""
+    return 0, generated_text(*(command.parts[part] for part in ("n", "m", "seed")))
+
+
+def selfrun(command):
+    """What a run of the generated job comes to."""
+    return 0, summary_text(*(command.parts[part] for part in ("n", "m", "seed", "block", "workers")))
+
+
 COMMANDS = {"derive": derive, "run": run, "verify": verify}
+# These read no input.
+WITHOUT_INPUT = {"make": make, "selfrun": selfrun}

@@ -133,25 +133,23 @@ def closure(place, implied, source, target):
     return reached
 
 
-def family(operation, pairs=True):
-    """All variants: the split, its directions, and the kept tasks in canonical order."""
-    variants = []
+def variants(operation, pairs=True):
+    """All variants, one after another: the split, its directions, and the kept tasks in canonical order."""
     for split in splits(operation):
         if len(split) == 2 and not pairs:
-            break
+            return
         for choice in cartesian((FORWARD, BACKWARD), repeat=len(split)):
             two, *conditions = rules(operation, split, dict(zip(split, choice)))
             sets = (filtered if len(two) <= FILTER_LIMIT else searched)(len(two), *conditions)
-            variants += [(split, choice, [task for at, task in enumerate(two) if number >> at & 1])
-                         for number in sets]
-    return variants
+            for number in sets:
+                yield split, choice, [task for at, task in enumerate(two) if number >> at & 1]
 
 
 def family_text(operation, pairs=True):
     """The lines that `derive` prints for an operation."""
-    variants = family(operation, pairs)
-    lines = [f"operation {operation.name}", f"variants {len(variants)}"]
-    for number, (split, directions, kept) in enumerate(variants, 1):
+    family = list(variants(operation, pairs))
+    lines = [f"operation {operation.name}", f"variants {len(family)}"]
+    for number, (split, directions, kept) in enumerate(family, 1):
         named = " ".join(f"{operation.dims[dim]} {direction}" for dim, direction in zip(split, directions))
         lines.append(" ".join([f"{number} split {named} :", *(task.text() for task in kept)]))
     return "\n".join(lines + [""])
