@@ -49,26 +49,28 @@ const OVERLAPPING: [Event; 10] = [
     Event::Finish(5),
 ];
 
-/// The job of a matrix by `lu`.
-fn job_of(alloc: Global, matrix: &str) -> Result<Job, AllocError>
-    requires { length matrix.now ≤ 1000 }
+/// The job of operations and of what stands behind them.
+fn job_of(alloc: Global, operations: &str, rest: &str) -> Result<Job, AllocError>
+    requires operations { length operations.now ≤ 1000 }
+    requires rest { length rest.now ≤ 1000 }
     ensures { IfOk result IsJob }
 {
-    let mut text = LU.as_bytes().to_vec(alloc)?;
-    text.extend_from_slice(matrix.as_bytes())?;
+    let mut text = operations.as_bytes().to_vec(alloc)?;
+    text.extend_from_slice(rest.as_bytes())?;
     match read_job(alloc, text.as_slice(), Stop::Nothing) {
         Ok((job, _)) => Ok(job),
         Err(_) => Err(AllocError),
     }
 }
 
-/// Its steps by its first variant, under blocks of size 2.
-fn steps_of(alloc: Global, job: &Job) -> Result<StepList, AllocError>
-    requires { IsJob job.now }
-    ensures fit { IfOk result (FitsJob job.now 2) }
+/// Its steps by first variants, under a block size.
+fn steps_of(alloc: Global, job: &Job, b: u32) -> Result<StepList, AllocError>
+    requires job { IsJob job.now }
+    requires size { 1 ≤ b }
+    ensures fit { IfOk result (FitsJob job.now b) }
     ensures few { IfOk result (λ steps. length steps ≤ most_accesses) }
 {
-    match issue(alloc, job, 2, &Choice::First) {
+    match issue(alloc, job, b, &Choice::First) {
         Ok(steps) => Ok(steps),
         Err(_) => Err(AllocError),
     }
@@ -78,8 +80,8 @@ fn steps_of(alloc: Global, job: &Job) -> Result<StepList, AllocError>
 fn come_to(alloc: Global, matrix: &str, events: &[Event]) -> Result<Option<Outcome>, AllocError>
     requires { length matrix.now ≤ 1000 }
 {
-    let job = job_of(alloc, matrix)?;
-    let steps = steps_of(alloc, &job)?;
+    let job = job_of(alloc, LU, matrix)?;
+    let steps = steps_of(alloc, &job, 2)?;
     let list = EventList::from_vec(events.to_vec(alloc)?);
     run_events(alloc, &job, 2, &steps, &list)
 }
@@ -88,8 +90,8 @@ fn come_to(alloc: Global, matrix: &str, events: &[Event]) -> Result<Option<Outco
 fn come_to_in_order(alloc: Global, matrix: &str) -> Result<Outcome, AllocError>
     requires { length matrix.now ≤ 1000 }
 {
-    let job = job_of(alloc, matrix)?;
-    let steps = steps_of(alloc, &job)?;
+    let job = job_of(alloc, LU, matrix)?;
+    let steps = steps_of(alloc, &job, 2)?;
     replay(alloc, &job, 2, &steps)
 }
 
@@ -97,14 +99,60 @@ fn come_to_in_order(alloc: Global, matrix: &str) -> Result<Outcome, AllocError>
 fn first_block(alloc: Global, matrix: &str) -> Result<Option<Matrix>, AllocError>
     requires { length matrix.now ≤ 1000 }
 {
-    let job = job_of(alloc, matrix)?;
-    let steps = steps_of(alloc, &job)?;
+    let job = job_of(alloc, LU, matrix)?;
+    let steps = steps_of(alloc, &job, 2)?;
     let blocks = JobBlocks::new(alloc, &job, 2)?;
     let mut machine = Machine::new(alloc, &job, 2, &steps)?;
     if blocks.count() == 0 || !machine.start(1) || !machine.finish(1) {
         return Ok(None);
     }
     Ok(Some(machine.block(0).copy(alloc)?))
+}
+
+/// Operations by which a system is solved: factors, and two triangular systems.
+const SYSTEM: &str =
+    "flame 1\nmodulus 101\noperation lu\ndims n\nwork W general n n\nequation lu X = W\nend\noperation ulow\ndims n m\nwork W general n m\nknown T unitlower n n\nequation T * X = W\nend\noperation upp\ndims n m\nwork W general n m\nknown T upper n n\nequation T * X = W\nend\n";
+
+const STATEMENTS: &str =
+    "matrix A 2 2\n2 1\n4 5\nend\nmatrix B 2 1\n3\n9\nend\ndo lu A\ndo ulow B A\ndo upp B A\n";
+
+/// The beginning and then the end of each of so many steps.
+fn ordered(alloc: Global, count: u32) -> Result<EventList, AllocError> {
+    let mut events = EventList::new(alloc);
+    for before in 0..count {
+        events.push(Event::Start(before + 1))?;
+        events.push(Event::Finish(before + 1))?;
+    }
+    Ok(events)
+}
+
+/// What the steps of three statements come to, on blocks of one entry.
+fn solved(alloc: Global) -> Result<Option<Outcome>, AllocError> {
+    let job = job_of(alloc, SYSTEM, STATEMENTS)?;
+    let steps = steps_of(alloc, &job, 1)?;
+    let events = ordered(alloc, steps.len() as u32)?;
+    run_events(alloc, &job, 1, &steps, &events)
+}
+
+/// Whether two matrices are left, with these entries.
+fn leaves_two(outcome: &Outcome, first: &[u64], second: &[u64]) -> bool {
+    match outcome {
+        Outcome::Done(matrices) => match matrices.as_slice() {
+            [a, b] => a.entries() == first && b.entries() == second,
+            _ => false,
+        },
+        Outcome::BadPivot { .. } => false,
+    }
+}
+
+#[test]
+fn three_statements_are_done(rt: HostRuntime) -> Result<(), Fail> {
+    let outcome = solved(rt.alloc())?;
+    let left = outcome.is_some_and(|outcome| {
+        leaves_two(&outcome, [2, 1, 2, 3].as_slice(), [1, 1].as_slice())
+    });
+    assert!(rt; left);
+    Ok(())
 }
 
 /// Whether one matrix is left, with these entries.
