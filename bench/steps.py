@@ -1,10 +1,11 @@
 """Times runs of many steps, their traces and `selfrun`, and prints what is found beside what is asked.
 
-    python3 bench/steps.py KERNEL_BENCH FLAME DATA [ROUNDS [N [BLOCK]]]
+    python3 bench/steps.py KERNEL_BENCH MACHINE_BENCH FLAME DATA [ROUNDS [N [BLOCK]]]
 
 All times are user and system times, the best of alternating rounds; the output isn't kept. From that of a job that of the
 same job without its statements is taken off, so that reading the text doesn't count, and from that of `selfrun` what it
-takes where it is refused for too many parts, so that making the job doesn't. What the program prints isn't looked at.
+takes where it is refused for too many parts, so that making the job doesn't. From that of a machine what it takes to make the
+job and list its steps. What the program prints isn't looked at, but for the number of a machine's steps.
 """
 
 import os
@@ -16,11 +17,12 @@ from pathlib import Path
 MODULUS = 4294967291
 SIDE, TIMES = 32, 8
 STEPS = TIMES * SIDE**3
-# Asked: the seconds of listing and analysing, the megabytes beside it, the rate of a trace, the microseconds of a step, and
-# the share of the kernels' rates.
+# Asked: the seconds of listing and analysing, the megabytes beside it, the rate of a trace, the microseconds of a step and of an
+# event, and the share of the kernels' rates.
 ANALYSED_SECONDS, ANALYSED_MEGABYTES = 0.5, 400
 TRACE_RATE = 50
 STEP_MICROSECONDS = 2
+EVENT_MICROSECONDS = 1
 SHARE = 0.8
 REFUSED = 3
 
@@ -98,7 +100,7 @@ def repeats_of(block):
     return max(2, round(1e9 / block**3))
 
 
-def runs_of(bench, flame, data, n, block):
+def runs_of(bench, machine, flame, data, n, block):
     """All runs by what they are for."""
     runs = {"idle": (flame, run_words(), data / "steps-idle.flame")}
     for number in VARIANTS:
@@ -108,6 +110,8 @@ def runs_of(bench, flame, data, n, block):
         name, *rest = kernel.split()
         for repeats in (0, repeats_of(block)):
             runs[kernel, repeats] = (bench, [name, str(block), str(MODULUS), str(repeats), *rest])
+    for way in ("machine", "replay", "list"):
+        runs[way] = (machine, [way, str(SIDE)])
     runs["selfrun"] = (flame, self_words(n, block))
     if (n - 1) // 32:
         runs["made"] = (flame, self_words(n, (n - 1) // 32), os.devnull, REFUSED)
@@ -150,6 +154,14 @@ def print_steps(seconds, memory, flame, source):
                   + asked(peaks[1], ANALYSED_MEGABYTES, "MB", False))
 
 
+def print_machine(seconds, machine):
+    """What the events of a machine take, its kernels on blocks of one entry among them, beside a replay."""
+    steps = int(subprocess.run([machine, "machine", str(SIDE)], stdout=subprocess.PIPE, check=True).stdout)
+    event, step = ((seconds[way] - seconds["list"]) / steps * 1e6 for way in ("machine", "replay"))
+    print(f"a machine with {steps} steps on blocks of one entry: {event / 2:.2f} us an event, its kernels among it, "
+          f"{asked(event / 2, EVENT_MICROSECONDS, 'us', False)}; a replay {step:.2f} us a step")
+
+
 def print_selfrun(seconds, memory, n, block):
     """What `selfrun` takes beside the same calls of the kernels."""
     parts, repeats = -(-n // block), repeats_of(block)
@@ -168,13 +180,14 @@ def print_selfrun(seconds, memory, n, block):
 
 
 def main():
-    bench, flame, data = sys.argv[1:3] + [Path(sys.argv[3])]
-    rounds, n, block = [int(given) for given in sys.argv[4:]] + [5, 1024, 128][len(sys.argv[4:]):]
+    bench, machine, flame, data = sys.argv[1:4] + [Path(sys.argv[4])]
+    rounds, n, block = [int(given) for given in sys.argv[5:]] + [5, 1024, 128][len(sys.argv[5:]):]
     (data / "steps.flame").write_text(job_text(TIMES))
     (data / "steps-idle.flame").write_text(job_text(0))
     print(f"best of {rounds} rounds, load {os.getloadavg()[0]:.1f}")
-    seconds, memory = best_of(rounds, runs_of(bench, flame, data, n, block))
+    seconds, memory = best_of(rounds, runs_of(bench, machine, flame, data, n, block))
     print_steps(seconds, memory, flame, data / "steps.flame")
+    print_machine(seconds, machine)
     print_selfrun(seconds, memory, n, block)
 
 
