@@ -1,0 +1,5 @@
+use Rattle.block_store.proofs.Closing.{last}
+use Rattle.block_store.proofs.seat.Board.close.Goals as goal
+
+pub returns : goal.returns
+returns c = last c.args.self.table.shared.key c.args.seat.inner.id c.args.seat.inner.me.0 c.requires.all c.requires.ended c.requires.free _ _ c.close_with.ensures.values.2

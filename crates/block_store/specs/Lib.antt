@@ -1,0 +1,11 @@
+pub mod Blocks
+pub mod Holding
+pub mod Keys
+pub mod Opening
+pub mod Plays
+pub mod Rule
+pub mod Seats
+pub mod Stamps
+pub mod Sums
+pub mod Tallies
+pub mod Views
