@@ -1,4 +1,3 @@
 pub mod Binding
 pub mod DecimalTexts
 pub mod Digits
-pub mod MatrixLines

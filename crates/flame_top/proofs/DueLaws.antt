@@ -1,10 +1,10 @@
 -- For the same words and input one status and one text are due.
 use Rattle.std.proofs.Common.{◌≡◌, inl, inr, ℕ, List, Result, Err, sym, ◌∙◌, subst, arith}
 use Rattle.std.specs.Prelude.{codes}
+use Rattle.text_scan.specs.Faults.{Fault}
 use Rattle.job_text.proofs.OneJob.{no_fault, one_job}
 use Rattle.equation.specs.declared.job.Job.{Job}
 use Rattle.equation.specs.Jobs.{IsJob}
-use Rattle.job_text.specs.declared.fault.JobFault.{JobFault}
 use Rattle.job_text.specs.declared.stop.Stop.TheVariants.{Nothing}
 use Rattle.job_text.specs.SpelledJobs.{job_in}
 use Rattle.job_text.specs.JobTexts.{job_text}
@@ -33,7 +33,7 @@ same_families job status other text different due due_other = same_says 0 (famil
 one_error : {A E : Type 0} (e f : E) → ◌≡◌ {A = Result A E} (Err e) (Err f) → e ≡ f
 one_error e f same = cc
 
-one_fault : (input : List ℕ) (fault other : JobFault) → job_in Nothing input ≡ Err fault → job_in Nothing input ≡ Err other → fault ≡ other
+one_fault : (input : List ℕ) (fault other : Fault) → job_in Nothing input ≡ Err fault → job_in Nothing input ≡ Err other → fault ≡ other
 one_fault input fault other is is_other = one_error fault other (sym is ∙ is_other)
 
 -- for a command that reads a job alone
@@ -41,11 +41,11 @@ same_short : (due : Job → ℕ → List ℕ → Type 0) → ((job : Job) → Is
 same_short due same_job input status other text different (inl is) (inl is_other) =
     let one = (one_job input Nothing is.0 is.1 is.2 is_other.0 is_other.1 is_other.2).0 in
     same_job is_other.0 is_other.2.first.lines.valid status other text different (subst (λ job. due job status text) one is.3) is_other.3
-same_short due same_job input status other text different (inl is) (inr refused) = absurd (no_fault input Nothing is.0 is.1 is.2 refused.0 refused.2)
-same_short due same_job input status other text different (inr refused) (inl is) = absurd (no_fault input Nothing is.0 is.1 is.2 refused.0 refused.2)
+same_short due same_job input status other text different (inl is) (inr refused) = absurd (no_fault input Nothing is.0 is.1 is.2 refused.0 refused.1)
+same_short due same_job input status other text different (inr refused) (inl is) = absurd (no_fault input Nothing is.0 is.1 is.2 refused.0 refused.1)
 same_short due same_job input status other text different (inr refused) (inr refused_other) =
-    let one = one_fault input refused.0 refused_other.0 refused.2 refused_other.2 in
-    same_says 3 (refusal_text refused_other.0) status other text different (subst (λ fault. Says 3 (refusal_text fault) status text) one refused.3) refused_other.3
+    let one = one_fault input refused.0 refused_other.0 refused.1 refused_other.1 in
+    same_says 3 (refusal_text refused_other.0) status other text different (subst (λ fault. Says 3 (refusal_text fault) status text) one refused.2) refused_other.2
 
 -- ---- for a command
 

@@ -36,7 +36,7 @@ difference_is_due status is = (λ e. omega arith, λ e. omega arith, λ e. omega
 short_is_due : (due : Job → ℕ → List ℕ → Type 0) → ((job : Job) (status : ℕ) (text : List ℕ) → due job status text → IsDueStatus status)
     → (input : List ℕ) (status : ℕ) (text : List ℕ) → DueShort due input status text → IsDueStatus status
 short_is_due due of_job input status text (inl spelled) = of_job spelled.0 status text spelled.3
-short_is_due due of_job input status text (inr fault) = refusal_is_due status fault.3.0
+short_is_due due of_job input status text (inr fault) = refusal_is_due status fault.2.0
 
 families_are_due : (job : Job) (status : ℕ) (text : List ℕ) → DueFamilies job status text → IsDueStatus status
 families_are_due job status text families = zero_is_due status families.0
@@ -59,8 +59,8 @@ selfrun_is_due words = by_steps_is_due words.block First (job_of words) (self_te
 verify_is_due : (input : List ℕ) (status : ℕ) (text : List ℕ) → DueVerify input status text → IsDueStatus status
 verify_is_due input status text (inl (job, rest, spells, inl (after, spelled, inl all))) = zero_is_due status all.1
 verify_is_due input status text (inl (job, rest, spells, inl (after, spelled, inr differs))) = difference_is_due status differs.4
-verify_is_due input status text (inl (job, rest, spells, inr fault)) = refusal_is_due status fault.3
-verify_is_due input status text (inr fault) = refusal_is_due status fault.3
+verify_is_due input status text (inl (job, rest, spells, inr fault)) = refusal_is_due status fault.2
+verify_is_due input status text (inr fault) = refusal_is_due status fault.2
 
 input_is_due : (command : Command) (input : List ℕ) (status : ℕ) (text : List ℕ) → DueInput command input status text → IsDueStatus status
 input_is_due Derive input status text due = short_is_due DueFamilies families_are_due input status text due

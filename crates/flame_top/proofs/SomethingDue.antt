@@ -1,16 +1,13 @@
 -- For all words and each input some status and some text are due.
-use Rattle.std.proofs.Common.{◌≡◌, inl, inr, ◌⊎◌, ℕ, ◌<◌, ◌≤◌, List, length, Some, Result, Ok, Err, refl, ap, ◌∙◌}
+use Rattle.std.proofs.Common.{◌≡◌, inl, inr, ◌⊎◌, ℕ, ◌<◌, ◌≤◌, List, length, Result, Ok, Err, refl}
 use Rattle.std.specs.Prelude.{codes}
 use Rattle.std.proofs.lemmas.Bool.{cases_lt}
 use Rattle.text_scan.specs.declared.Rest.{Rest}
+use Rattle.text_scan.specs.Faults.{Fault}
 use Rattle.equation.specs.declared.job.Job.{Job}
 use Rattle.equation.specs.Jobs.{IsJob}
-use Rattle.job_text.specs.declared.fault.JobFault.{JobFault}
-use Rattle.job_text.specs.declared.fault.JobFault.TheVariants.{Memory}
 use Rattle.job_text.specs.declared.stop.Stop.TheVariants.{Nothing}
-use Rattle.job_text.specs.Sections.{text_fault}
 use Rattle.job_text.specs.SpelledJobs.{Spells, job_in}
-use Rattle.job_text.proofs.JobKinds.{want_of_memory_none}
 use Rattle.job_text.proofs.JobTaken.{read_job_spelled}
 use Rattle.job_text.specs.JobTexts.{job_text}
 use Rattle.job_generator.specs.GeneratedJobs.{generated_job}
@@ -27,7 +24,7 @@ use Rattle.flame_top.proofs.ReadingCommands.{reads_or_not}
 use Rattle.flame_top.proofs.RunLaws.{some_run}
 use Rattle.flame_top.proofs.SameDue.{IsSomeDue}
 use Rattle.flame_top.proofs.SelfRunLaws.{some_selfrun}
-use Rattle.flame_top.proofs.VerifyLaws.{of_the_text, some_verify}
+use Rattle.flame_top.proofs.VerifyLaws.{some_verify}
 
 -- ---- for a job
 
@@ -42,11 +39,9 @@ some_short due some_job input = go (job_in Nothing input) refl
     for_job : (job : Job) (rest : Rest) → Spells input Nothing job rest → IsSomeDue (due job) → IsSomeDue (DueShort due input)
     for_job job rest spells is = (is.0, is.1, inl (job, rest, spells, is.2))
 
-    go : (read : Result (Job × Rest) JobFault) → job_in Nothing input ≡ read → IsSomeDue (DueShort due input)
+    go : (read : Result (Job × Rest) Fault) → job_in Nothing input ≡ read → IsSomeDue (DueShort due input)
     go (Ok (job, rest)) e = let spells = read_job_spelled Nothing input job rest e in for_job job rest spells (some_job job spells.first.lines.valid)
-    go (Err fault) e =
-        let is : text_fault fault ≡ Some fault = of_the_text fault (λ (memory : fault ≡ Memory). want_of_memory_none Nothing input (e ∙ ap Err memory)) in
-        (3, refusal_text fault, inr (fault, is, e, (refl, refl)))
+    go (Err fault) e = (3, refusal_text fault, inr (fault, e, (refl, refl)))
 
 some_input : (command : Command) → IsInRange command → (input : List ℕ) → IsSomeDue (DueInput command input)
 some_input Derive range input = some_short DueFamilies (λ job valid. some_families job) input

@@ -1,10 +1,11 @@
 -- For the same input one answer of `verify` is due, and there is one.
-use Rattle.std.proofs.Common.{◌≡◌, ◌≢◌, inl, inr, ℕ, ◌+◌, ◌<◌, List, length, slice_get, Some, Result, Ok, Err, refl, sym, ap, subst, ◌∙◌, arith}
+use Rattle.std.proofs.Common.{◌≡◌, inl, inr, ℕ, ◌+◌, ◌<◌, List, length, slice_get, Some, Result, Ok, Err, refl, sym, ap, subst, ◌∙◌, arith}
 use Rattle.std.proofs.lemmas.Bool.{cases_order}
 use Rattle.std.proofs.lemmas.Option.{same_Some}
 use Rattle.byte_texts.proofs.Binding.{same_ok}
 use Rattle.residue_sums.specs.Grids.{Grid}
 use Rattle.text_scan.specs.declared.Rest.{Rest}
+use Rattle.text_scan.specs.Faults.{Fault}
 use Rattle.operation_spec.specs.declared.operation.Operation.{Operation}
 use Rattle.equation.specs.declared.job.Job.{Job}
 use Rattle.equation.specs.declared.job.Place.{Place}
@@ -12,18 +13,12 @@ use Rattle.equation.specs.declared.job.Statement.{Statement}
 use Rattle.equation.specs.Jobs.{known_grids, nth_grid}
 use Rattle.equation.specs.Residuals.{IsFirstResidual}
 use Rattle.equation.proofs.ResidualDecisions.{none_satisfies, one_residual}
-use Rattle.job_text.specs.declared.fault.JobFault.{JobFault}
-use Rattle.job_text.specs.declared.fault.JobFault.TheVariants.{Memory}
 use Rattle.job_text.specs.declared.stop.Stop.TheVariants.{After}
 use Rattle.job_text.specs.AfterBlocks.{SpellsAfter}
 use Rattle.job_text.specs.AfterFaults.{after_in}
-use Rattle.job_text.specs.Sections.{text_fault}
 use Rattle.job_text.specs.SpelledJobs.{Spells, job_in}
 use Rattle.job_text.proofs.AfterAgain.{after_read}
-use Rattle.job_text.proofs.AfterKinds.{no_want_of_memory}
-use Rattle.job_text.proofs.AfterPlaces.{second_part_place}
 use Rattle.job_text.proofs.AfterTaken.{after_spelled}
-use Rattle.job_text.proofs.JobKinds.{want_of_memory_none}
 use Rattle.job_text.proofs.JobTaken.{read_job_spelled}
 use Rattle.job_text.proofs.OneJob.{no_fault, one_job}
 use Rattle.flame_top.specs.Refusals.{refusal_text}
@@ -87,31 +82,26 @@ module _ (input : List ℕ) where
 
     same_behind : (status other : ℕ) (text different : List ℕ) → DueBehind input rest job status text → DueBehind input rest job other different → Same status other text different
     same_behind status other text different (inl is) (inl is_other) =
-        let one : is.0 ≡ is_other.0 = same_ok {F = JobFault} is.0 is_other.0 (sym (read_again is.0 is.1) ∙ read_again is_other.0 is_other.1) in
+        let one : is.0 ≡ is_other.0 = same_ok {F = Fault} is.0 is_other.0 (sym (read_again is.0 is.1) ∙ read_again is_other.0 is_other.1) in
         same_answer job is_other.0 status other text different (subst (λ (after : List Grid). DueAnswer job after status text) one is.2) is_other.2
-    same_behind status other text different (inl is) (inr fault) = let read = read_again is.0 is.1 in let ends = fault.2 in absurd (cc)
-    same_behind status other text different (inr fault) (inl is) = let read = read_again is.0 is.1 in let ends = fault.2 in absurd (cc)
+    same_behind status other text different (inl is) (inr fault) = let read = read_again is.0 is.1 in let ends = fault.1 in absurd (cc)
+    same_behind status other text different (inr fault) (inl is) = let read = read_again is.0 is.1 in let ends = fault.1 in absurd (cc)
     same_behind status other text different (inr fault) (inr fault_other) =
-        let one : fault.0 ≡ fault_other.0 = one_error fault.0 fault_other.0 (sym fault.2 ∙ fault_other.2) in
-        (fault.3 ∙ sym fault_other.3, fault.4 ∙ ap refusal_text one ∙ sym fault_other.4)
+        let one : fault.0 ≡ fault_other.0 = one_error fault.0 fault_other.0 (sym fault.1 ∙ fault_other.1) in
+        (fault.2 ∙ sym fault_other.2, fault.3 ∙ ap refusal_text one ∙ sym fault_other.3)
 
   pub same_verify : (status other : ℕ) (text different : List ℕ) → DueVerify input status text → DueVerify input other different → (status ≡ other) × (text ≡ different)
   same_verify status other text different (inl is) (inl is_other) =
       let one = one_job input After is.0 is.1 is.2 is_other.0 is_other.1 is_other.2 in
       same_behind is_other.0 is_other.1 is_other.2 status other text different
       (subst (λ (rest : Rest). DueBehind input rest is_other.0 status text) one.1 (subst (λ (job : Job). DueBehind input is.1 job status text) one.0 is.3)) is_other.3
-  same_verify status other text different (inl is) (inr fault) = absurd (no_fault input After is.0 is.1 is.2 fault.0 fault.2)
-  same_verify status other text different (inr fault) (inl is) = absurd (no_fault input After is.0 is.1 is.2 fault.0 fault.2)
+  same_verify status other text different (inl is) (inr fault) = absurd (no_fault input After is.0 is.1 is.2 fault.0 fault.1)
+  same_verify status other text different (inr fault) (inl is) = absurd (no_fault input After is.0 is.1 is.2 fault.0 fault.1)
   same_verify status other text different (inr fault) (inr fault_other) =
-      let one : fault.0 ≡ fault_other.0 = one_error fault.0 fault_other.0 (sym fault.2 ∙ fault_other.2) in
-      (fault.3 ∙ sym fault_other.3, fault.4 ∙ ap refusal_text one ∙ sym fault_other.4)
+      let one : fault.0 ≡ fault_other.0 = one_error fault.0 fault_other.0 (sym fault.1 ∙ fault_other.1) in
+      (fault.2 ∙ sym fault_other.2, fault.3 ∙ ap refusal_text one ∙ sym fault_other.3)
 
 -- ---- an answer
-
--- a fault that isn't want of memory is one of the text
-pub of_the_text : (fault : JobFault) → fault ≢ Memory → text_fault fault ≡ Some fault
-of_the_text Memory not = absurd (not refl)
-of_the_text other not = refl
 
 module _ (input : List ℕ) where
   some_behind : (job : Job) (rest : Rest) → Spells input After job rest → (status : ℕ) × (text : List ℕ) × DueBehind input rest job status text
@@ -123,12 +113,9 @@ module _ (input : List ℕ) where
         | inr first ↦ (8, differs_text (first.0 + 1) first.1, inl (after, spelled, inr (first.0, first.1, first.2, first.3, refl, refl)))
       ]
 
-      go : (read : Result (List Grid) JobFault) → after_in input rest job ≡ read → (status : ℕ) × (text : List ℕ) × DueBehind input rest job status text
+      go : (read : Result (List Grid) Fault) → after_in input rest job ≡ read → (status : ℕ) × (text : List ℕ) × DueBehind input rest job status text
       go (Ok after) e = answered after (after_spelled input rest job after (omega (arith, spells.first.lines.valid.modulus)) (HaveShortSizes-spelled input rest job spells) e)
-      go (Err fault) e =
-          let told : text_fault fault ≡ Some fault = of_the_text fault (λ (memory : fault ≡ Memory).
-          no_want_of_memory input rest job spells.second.tokens spells.second.scanned (second_part_place input After rest spells.second) (e ∙ ap Err memory)) in
-          (3, refusal_text fault, inr (fault, told, e, refl, refl))
+      go (Err fault) e = (3, refusal_text fault, inr (fault, e, refl, refl))
 
   pub some_verify : (status : ℕ) × (text : List ℕ) × DueVerify input status text
   some_verify = go (job_in After input) refl
@@ -136,8 +123,6 @@ module _ (input : List ℕ) where
       behind : (job : Job) (rest : Rest) → Spells input After job rest → ((status : ℕ) × (text : List ℕ) × DueBehind input rest job status text) → (status : ℕ) × (text : List ℕ) × DueVerify input status text
       behind job rest spells is = (is.0, is.1, inl (job, rest, spells, is.2))
 
-      go : (read : Result (Job × Rest) JobFault) → job_in After input ≡ read → (status : ℕ) × (text : List ℕ) × DueVerify input status text
+      go : (read : Result (Job × Rest) Fault) → job_in After input ≡ read → (status : ℕ) × (text : List ℕ) × DueVerify input status text
       go (Ok (job, rest)) e = let spells = read_job_spelled After input job rest e in behind job rest spells (some_behind job rest spells)
-      go (Err fault) e =
-          let told : text_fault fault ≡ Some fault = of_the_text fault (λ (memory : fault ≡ Memory). want_of_memory_none After input (e ∙ ap Err memory)) in
-          (3, refusal_text fault, inr (fault, told, e, refl, refl))
+      go (Err fault) e = (3, refusal_text fault, inr (fault, e, refl, refl))

@@ -8,11 +8,12 @@ use Rattle.operation_spec.specs.declared.operation.Form.TheVariants.{Assign}
 use Rattle.operation_spec.proofs.WorkedOperations.{lu, low}
 use Rattle.invariant_family.specs.Families.{family_of}
 use Rattle.variant_report.specs.FamilyTexts.{variant_lines}
-use Rattle.job_text.specs.declared.fault.JobFault.TheVariants as faults
+use Rattle.text_scan.specs.FaultKinds.{Alias}
+use Rattle.text_scan.specs.Faults.{◌on◌}
 use Rattle.flame_top.specs.Derive.{families_text}
 use Rattle.flame_top.specs.Refusals.{bad_pivot_text, no_variant_text, refusal_text, too_many_parts_text, variant_count_text}
 
-refused_line : refusal_text (faults.Alias 13) ≡ codes "refused Alias line 13\n"
+refused_line : refusal_text (Alias on 13) ≡ codes "refused Alias line 13\n"
 unfolding digits
 refused_line = refl
 

@@ -1,32 +1,35 @@
 -- What is printed of a refused input or job, and of a job that meets a bad pivot.
-use Rattle.std.specs.Prelude.{ℕ, List, [], ◌++◌, codes, decimal}
-use Rattle.job_text.specs.declared.fault.JobFault.{JobFault}
-use Rattle.job_text.specs.declared.fault.JobFault.TheVariants.{Memory, BadByte, Header, TrailingText, Syntax, Modulus, Limit, NameTwice, NameUnknown, TooManyTerms, Shape, Form, TooLarge, RowLength, EntryRange, Binding, Alias}
+use Rattle.std.specs.Prelude.{ℕ, List, ◌++◌, codes, decimal}
+use Rattle.text_scan.specs.FaultKinds.{FaultKind, BadByte, Header, TrailingText, Syntax, Modulus, Limit, NameTwice, NameUnknown, TooManyTerms, Shape, Form, TooLarge, RowLength, EntryRange, Binding, Alias}
+use Rattle.text_scan.specs.Faults.{Fault}
 use Rattle.equation.specs.declared.job.Place.{Place}
 
 -- the kind of a fault and its line
 abbrev pub kind_at : List ℕ → ℕ → List ℕ
 kind_at kind line = codes "refused " ++ kind ++ codes " line " ++ decimal line ++ codes "\n"
 
--- a fault of the job's text; want of memory is none, and nothing is printed of it
-abbrev pub refusal_text : JobFault → List ℕ
-refusal_text Memory = []
-refusal_text (BadByte line) = kind_at (codes "BadByte") line
-refusal_text (Header line) = kind_at (codes "Header") line
-refusal_text (TrailingText line) = kind_at (codes "TrailingText") line
-refusal_text (Syntax line) = kind_at (codes "Syntax") line
-refusal_text (Modulus line) = kind_at (codes "Modulus") line
-refusal_text (Limit line) = kind_at (codes "Limit") line
-refusal_text (NameTwice line) = kind_at (codes "NameTwice") line
-refusal_text (NameUnknown line) = kind_at (codes "NameUnknown") line
-refusal_text (TooManyTerms line) = kind_at (codes "TooManyTerms") line
-refusal_text (Shape line) = kind_at (codes "Shape") line
-refusal_text (Form line) = kind_at (codes "Form") line
-refusal_text (TooLarge line) = kind_at (codes "TooLarge") line
-refusal_text (RowLength line) = kind_at (codes "RowLength") line
-refusal_text (EntryRange line) = kind_at (codes "EntryRange") line
-refusal_text (Binding line) = kind_at (codes "Binding") line
-refusal_text (Alias line) = kind_at (codes "Alias") line
+-- the words of a kind of fault
+abbrev pub kind_text : FaultKind → List ℕ
+kind_text BadByte = codes "BadByte"
+kind_text Header = codes "Header"
+kind_text TrailingText = codes "TrailingText"
+kind_text Syntax = codes "Syntax"
+kind_text Modulus = codes "Modulus"
+kind_text Limit = codes "Limit"
+kind_text NameTwice = codes "NameTwice"
+kind_text NameUnknown = codes "NameUnknown"
+kind_text TooManyTerms = codes "TooManyTerms"
+kind_text Shape = codes "Shape"
+kind_text Form = codes "Form"
+kind_text TooLarge = codes "TooLarge"
+kind_text RowLength = codes "RowLength"
+kind_text EntryRange = codes "EntryRange"
+kind_text Binding = codes "Binding"
+kind_text Alias = codes "Alias"
+
+-- a fault of the job's text
+abbrev pub refusal_text : Fault → List ℕ
+refusal_text fault = kind_at (kind_text fault.kind) fault.line
 
 -- numbers of variants that are not as many as the statements
 abbrev pub variant_count_text : ℕ → ℕ → List ℕ

@@ -2,6 +2,7 @@
 use Rattle.std.specs.Prelude.{◌≡◌, ℕ, ◌+◌, ◌<◌, ◌⊎◌, List, ◌∷◌, ◌++◌, length, take, codes, decimal, slice_get, slice_set, Some, Err}
 use Rattle.residue_sums.specs.Grids.{Grid}
 use Rattle.text_scan.specs.declared.Rest.{Rest}
+use Rattle.text_scan.specs.Faults.{Fault}
 use Rattle.operation_spec.specs.declared.operation.Operation.{Operation}
 use Rattle.equation.specs.declared.job.Job.{Job}
 use Rattle.equation.specs.declared.job.Place.{Place}
@@ -9,11 +10,9 @@ use Rattle.equation.specs.declared.job.Statement.{Statement}
 use Rattle.equation.specs.Equations.{Satisfies}
 use Rattle.equation.specs.Jobs.{known_grids, nth_grid}
 use Rattle.equation.specs.Residuals.{IsFirstResidual}
-use Rattle.job_text.specs.declared.fault.JobFault.{JobFault}
 use Rattle.job_text.specs.declared.stop.Stop.TheVariants.{After}
 use Rattle.job_text.specs.AfterBlocks.{SpellsAfter}
 use Rattle.job_text.specs.AfterFaults.{after_in}
-use Rattle.job_text.specs.Sections.{text_fault}
 use Rattle.job_text.specs.SpelledJobs.{Spells, job_in}
 use Rattle.flame_top.specs.Refusals.{refusal_text}
 
@@ -67,9 +66,9 @@ DueAnswer job after status text =
 -- behind a job: the answer for the matrices that are spelled there, or their first fault
 abbrev pub DueBehind : List ℕ → Rest → Job → ℕ → List ℕ → Type 0
 DueBehind input rest job status text = ((after : List Grid) × SpellsAfter input rest job after × DueAnswer job after status text)
-    ⊎ ((fault : JobFault) × (text_fault fault ≡ Some fault) × (after_in input rest job ≡ Err fault) × (status ≡ 3) × (text ≡ refusal_text fault))
+    ⊎ ((fault : Fault) × (after_in input rest job ≡ Err fault) × (status ≡ 3) × (text ≡ refusal_text fault))
 
 -- for an input: what is due behind the job that it begins with, or the first fault of that job
 abbrev pub DueVerify : List ℕ → ℕ → List ℕ → Type 0
 DueVerify input status text = ((job : Job) × (rest : Rest) × Spells input After job rest × DueBehind input rest job status text)
-    ⊎ ((fault : JobFault) × (text_fault fault ≡ Some fault) × (job_in After input ≡ Err fault) × (status ≡ 3) × (text ≡ refusal_text fault))
+    ⊎ ((fault : Fault) × (job_in After input ≡ Err fault) × (status ≡ 3) × (text ≡ refusal_text fault))

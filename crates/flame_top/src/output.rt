@@ -1,6 +1,7 @@
 //! A whole output, and that of an input that is refused.
 
-ghost use Rattle.std.specs.Prelude.{◌≡◌, IfOk};
+ghost use Rattle.std.specs.Prelude.{◌≡◌, IfOk, MatchOption};
+ghost use Rattle.job_text.specs.JobFaults.{job_fault};
 ghost use Rattle.flame_top.specs.Refusals.{refusal_text};
 
 use crate::refusals::put_refusal;
@@ -16,7 +17,8 @@ pub struct Output {
 
 /// The refusal of a text with this fault.
 pub fn fault_output(alloc: Global, fault: JobFault) -> Result<Output, AllocError>
-    ensures { IfOk result (λ output. (output.status ≡ 3) × (output.text.items ≡ refusal_text fault)) }
+    ensures { IfOk result (λ output. MatchOption (job_fault fault) (Unit {0})
+        (λ told. (output.status ≡ 3) × (output.text.items ≡ refusal_text told))) }
 {
     let mut text = Vec::new(alloc);
     put_refusal(fault, &mut text)?;

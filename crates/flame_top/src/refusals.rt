@@ -1,6 +1,7 @@
 //! The texts of refusals, and of a bad pivot.
 
-ghost use Rattle.std.specs.Prelude.{◌≡◌, ◌++◌, decimal, OnOk};
+ghost use Rattle.std.specs.Prelude.{◌≡◌, ◌++◌, decimal, MatchOption, OnOk};
+ghost use Rattle.job_text.specs.JobFaults.{job_fault};
 ghost use Rattle.flame_top.specs.Refusals.{bad_pivot_text, kind_at, no_variant_text, refusal_text};
 ghost use Rattle.flame_top.specs.Refusals.{too_many_parts_text, variant_count_text};
 
@@ -21,9 +22,10 @@ fn put_kind(kind: &[u8], line: u32, out: &mut Vec<u8>) -> Result<(), AllocError>
     Ok(())
 }
 
-/// Appends what is printed of a fault of a job's text.
+/// Appends what is printed of a fault of a job's text, and of want of memory nothing.
 pub fn put_refusal(fault: JobFault, out: &mut Vec<u8>) -> Result<(), AllocError>
-    ensures { OnOk result (out.new.items ≡ out.old.items ++ refusal_text fault) }
+    ensures { OnOk result (MatchOption (job_fault fault) (out.new.items ≡ out.old.items)
+        (λ told. out.new.items ≡ out.old.items ++ refusal_text told)) }
 {
     match fault {
         JobFault::Memory => Ok(()),

@@ -1,9 +1,8 @@
 -- The operations of a generated job are valid, and their names can stand in a text: a text of each is read as it. Cited by the laws.
 use Rattle.std.proofs.Common.{◌≡◌, ℕ, List, [], Result, Ok, Err, refl, codes}
 use Rattle.text_scan.specs.declared.token.Token.{Token}
-use Rattle.text_scan.specs.declared.token.ScanFault.{ScanFault}
 use Rattle.text_scan.specs.Lines.{end_line_of, lines_of}
-use Rattle.text_scan.specs.Tokens.{front_of, tokens_from, tokens_of}
+use Rattle.text_scan.specs.Tokens.{BadByte, front_of, tokens_from, tokens_of}
 use Rattle.text_scan.proofs.LineOrders.{AreLines-from_tokens}
 use Rattle.text_scan.proofs.ScannedTokens.{AreTokens-scanned}
 use Rattle.operation_spec.specs.declared.operation.Operation.{Operation}
@@ -26,7 +25,7 @@ is_read text tokens op scanned read =
     record { valid = spells.valid; named = spells.names }
 
 -- the tokens of a text that has some
-abbrev tokens_in : Result (List Token) ScanFault → List Token
+abbrev tokens_in : Result (List Token) BadByte → List Token
 tokens_in (Ok tokens) = tokens
 tokens_in (Err fault) = []
 

@@ -4,15 +4,15 @@ use Rattle.std.proofs.lemmas.Bool.{cases_lt}
 use Rattle.std.proofs.lemmas.List.{at_drop_all, at_drop_more, get_or_default}
 use Rattle.residue_sums.specs.Grids.{Grid}
 use Rattle.byte_texts.specs.Reading.{◌>>=◌, EndsWith}
+use Rattle.byte_texts.proofs.Binding.{EndsWith-along, EndsWith-bind}
+use Rattle.text_scan.specs.Faults.{Fault, ◌on◌}
+use Rattle.text_scan.specs.FaultKinds.{Syntax}
 use Rattle.text_scan.specs.Lines.{Line}
 use Rattle.equation.specs.declared.job.Job.{Job}
 use Rattle.equation.specs.declared.job.Statement.{Statement}
-use Rattle.job_text.specs.declared.fault.JobFault.{JobFault}
-use Rattle.job_text.specs.declared.fault.JobFault.TheVariants.{Syntax}
 use Rattle.job_text.specs.AfterBlocks.{HasShortSizes, work_grid, work_name}
 use Rattle.job_text.specs.AfterFaults.{after_at, block_at, blocks_at}
 use Rattle.job_text.specs.JobFaults.{nothing_at}
-use Rattle.job_text.proofs.FirstSteps.{ends_along, ends_first}
 
 -- ---- no bytes are left
 
@@ -20,20 +20,20 @@ pub nothing_due : (end : ℕ) (job : Job) → job.statements ≡ [] → after_at
 unfolding after_at blocks_at nothing_at
 nothing_due end job none = rw none refl
 
-blocks_due : (end : ℕ) (job : Job) (statements : List Statement) → statements ≢ [] → blocks_at end job [] statements [] ≡ Err (Syntax end)
+blocks_due : (end : ℕ) (job : Job) (statements : List Statement) → statements ≢ [] → blocks_at end job [] statements [] ≡ Err (Syntax on end)
 unfolding blocks_at block_at
 blocks_due end job [] some = absurd (some refl)
 blocks_due end job (s ∷ statements) some = refl
 
-pub still_due : (end : ℕ) (job : Job) → job.statements ≢ [] → after_at end job [] ≡ Err (Syntax end)
+pub still_due : (end : ℕ) (job : Job) → job.statements ≢ [] → after_at end job [] ≡ Err (Syntax on end)
 unfolding after_at
 still_due end job some = rw (blocks_due end job job.statements some) refl
 
 -- ---- block after block
 
-module _ (end : ℕ) (job : Job) (found : List Grid) (statements : List Statement) (i : ℕ) (lines : List Line) (all : Result (List Grid × List Line) JobFault)
+module _ (end : ℕ) (job : Job) (found : List Grid) (statements : List Statement) (i : ℕ) (lines : List Line) (all : Result (List Grid × List Line) Fault)
     (so_far : blocks_at end job found (drop i statements) lines ≡ all) where
-  abbrev block : Statement → Result (Grid × List Line) JobFault
+  abbrev block : Statement → Result (Grid × List Line) Fault
   block s = block_at end job.modulus (work_name job s) (work_grid job s) lines
 
   next : (d : Statement) → i < length statements → all ≡ (block (get_or statements i d) >>= λ read. blocks_at end job (found ++ read.0 ∷ []) (drop (i + 1) statements) read.1)
@@ -43,10 +43,10 @@ module _ (end : ℕ) (job : Job) (found : List Grid) (statements : List Statemen
   pub block_found : (s : Statement) (g : Grid) (behind : List Line) → i < length statements → s ≡ get_or statements i s → block s ≡ Ok (g, behind) → blocks_at end job (found ++ g ∷ []) (drop (i + 1) statements) behind ≡ all
   block_found s g behind inside is read =
       let here : block (get_or statements i s) ≡ Ok (g, behind) = ap block (sym is) ∙ read in
-      sym (next s inside ∙ ap (λ (r : Result (Grid × List Line) JobFault). r >>= λ read. blocks_at end job (found ++ read.0 ∷ []) (drop (i + 1) statements) read.1) here)
+      sym (next s inside ∙ ap (λ (r : Result (Grid × List Line) Fault). r >>= λ read. blocks_at end job (found ++ read.0 ∷ []) (drop (i + 1) statements) read.1) here)
 
-  pub block_refused : (s : Statement) (fault : Option JobFault) → i < length statements → s ≡ get_or statements i s → EndsWith fault (block s) → EndsWith fault all
-  block_refused s fault inside is ends = ends_along fault all _ (next s inside) (ends_first fault (block (get_or statements i s)) _ (subst (λ (t : Statement). EndsWith fault (block t)) is ends))
+  pub block_refused : (s : Statement) (fault : Option Fault) → i < length statements → s ≡ get_or statements i s → EndsWith fault (block s) → EndsWith fault all
+  block_refused s fault inside is ends = EndsWith-along fault all _ (next s inside) (EndsWith-bind fault (block (get_or statements i s)) _ (subst (λ (t : Statement). EndsWith fault (block t)) is ends))
 
   pub blocks_end : length statements ≤ i → all ≡ Ok (found, lines)
   unfolding blocks_at

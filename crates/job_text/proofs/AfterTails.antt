@@ -6,15 +6,14 @@ use Rattle.std.proofs.lemmas.List.{drop_all}
 use Rattle.text_scan.specs.declared.Rest.{Rest}
 use Rattle.text_scan.specs.declared.token.Front.{Front}
 use Rattle.text_scan.specs.declared.token.Front.TheVariants as fronts
-use Rattle.text_scan.specs.declared.token.ScanFault.{ScanFault}
 use Rattle.text_scan.specs.declared.token.Token.{Token}
 use Rattle.text_scan.specs.declared.token.TokenKind.TheVariants.{Name, Number, Sign}
-use Rattle.text_scan.specs.Tokens.{behind, front_of, is_comment_byte, is_name_byte, line_behind, tokens_from, tokens_of, with_front}
+use Rattle.text_scan.specs.Tokens.{behind, front_of, is_comment_byte, is_name_byte, line_behind, tokens_from, tokens_of, with_front, BadByte}
 use Rattle.text_scan.proofs.LineFeeds.{other_byte}
 use Rattle.job_text.specs.AfterBlocks.{IsPlace}
 
 -- whatever begins, the tokens behind it are all
-inner_tokens : (front : Front) (at len line : ℕ) (read : Result (List Token) ScanFault) (tokens : List Token) → with_front front at len line read ≡ Ok tokens → (inner : List Token) × (read ≡ Ok inner)
+inner_tokens : (front : Front) (at len line : ℕ) (read : Result (List Token) BadByte) (tokens : List Token) → with_front front at len line read ≡ Ok tokens → (inner : List Token) × (read ≡ Ok inner)
 inner_tokens fronts.Bad at len line read tokens e = absurd cc
 inner_tokens fronts.Blank at len line read tokens e = (tokens, e)
 inner_tokens fronts.Comment at len line read tokens e = (tokens, e)
@@ -22,8 +21,8 @@ inner_tokens (fronts.Token kind) at len line (Ok inner) tokens e = (inner, refl)
 inner_tokens (fronts.Token kind) at len line (Err fault) tokens e = absurd cc
 
 -- at another place and on another line they are tokens, too
-outer_tokens : (front : Front) (at len line : ℕ) (read : Result (List Token) ScanFault) (tokens : List Token) → with_front front at len line read ≡ Ok tokens
-    → (other line_there len_there : ℕ) (there : Result (List Token) ScanFault) (inner : List Token) → there ≡ Ok inner → (outer : List Token) × (with_front front other len_there line_there there ≡ Ok outer)
+outer_tokens : (front : Front) (at len line : ℕ) (read : Result (List Token) BadByte) (tokens : List Token) → with_front front at len line read ≡ Ok tokens
+    → (other line_there len_there : ℕ) (there : Result (List Token) BadByte) (inner : List Token) → there ≡ Ok inner → (outer : List Token) × (with_front front other len_there line_there there ≡ Ok outer)
 outer_tokens fronts.Bad at len line read tokens e other line_there len_there there inner is = absurd cc
 outer_tokens fronts.Blank at len line read tokens e other line_there len_there there inner is = (inner, is)
 outer_tokens fronts.Comment at len line read tokens e other line_there len_there there inner is = (inner, is)

@@ -9,27 +9,25 @@ use Rattle.std.proofs.lemmas.Slice.Eq.{bytes_eq-Decides}
 use Rattle.residue_sums.specs.Grids.{Grid, IsFull, AreResidues}
 use Rattle.byte_texts.specs.Reading.{◌>>=◌, Gives}
 use Rattle.byte_texts.proofs.Binding.{bind_ok, same_ok}
+use Rattle.text_scan.specs.Faults.{Fault}
 use Rattle.text_scan.specs.declared.Rest.{Rest}
-use Rattle.text_scan.specs.declared.token.ScanFault.{ScanFault}
 use Rattle.text_scan.specs.declared.token.Token.{Token}
 use Rattle.text_scan.specs.LineOrder.{AreLines}
 use Rattle.text_scan.specs.Lines.{Line, end_line_of, lines_of}
-use Rattle.text_scan.specs.Tokens.{tokens_of}
+use Rattle.text_scan.specs.Tokens.{tokens_of, BadByte}
 use Rattle.text_scan.specs.Words.{is_name, is_number, is_word, number_value}
 use Rattle.text_scan.proofs.FaultTests.{passed_by}
 use Rattle.text_scan.proofs.LineOrders.{AreLines-from_tokens, AreLines-parts, is_line-words}
 use Rattle.text_scan.proofs.NumberTexts.{number_word}
 use Rattle.text_scan.proofs.ScannedTokens.{AreTokens-scanned}
-use Rattle.matrix_text.specs.MatrixFaults.{grid_at}
 use Rattle.matrix_text.proofs.MatrixSpelling.{grid_takes}
 use Rattle.equation.specs.declared.job.Job.{Job}
 use Rattle.equation.specs.declared.job.Statement.{Statement}
 use Rattle.job_text.specs.declared.fault.JobFault.{JobFault}
 use Rattle.job_text.specs.AfterBlocks.{AreAfter, AreNamed, HasShortSizes, HaveShortSizes, SpellsAfter, after_block, after_blocks, after_line, work_grid, work_name}
 use Rattle.job_text.specs.AfterFaults.{after_at, after_head_at, after_in, after_of, block_at, blocks_at, is_after_line, is_block_of}
-use Rattle.job_text.specs.JobFaults.{fault_of_matrix, nothing_at}
-use Rattle.job_text.specs.Sections.{text_fault}
-use Rattle.job_text.proofs.SectionLines.{both_lines, both_words, lines_behind, or_else_ok}
+use Rattle.job_text.specs.JobFaults.{nothing_at, job_fault}
+use Rattle.job_text.proofs.SectionLines.{both_lines, both_words, lines_behind}
 use Rattle.job_text.proofs.SectionsAgain.{words_of}
 
 -- ---- the first line of a block
@@ -89,7 +87,7 @@ block_taken end m name g (line ∷ lines) new rest small short are e =
     let is = AreLines-parts are in
     let head = bind_ok (after_head_at end name g line) _ (new, rest) e in
     let first = head_taken end name g line head.0 short (is_line-words line.words is.words) head.1 in
-    let grid = grid_takes end m g.rows g.cols lines new rest small is.others (or_else_ok fault_of_matrix (grid_at end m g.rows g.cols lines) (new, rest) head.2) in
+    let grid = grid_takes end m g.rows g.cols lines new rest small is.others head.2 in
     let same_line : after_line name g ≡ after_line name new = λ i. codes "after" ∷ name ∷ decimal (sym grid.as_many_rows i) ∷ decimal (sym grid.as_many_cols i) ∷ [] in
     let words : line.words ≡ after_line name new = first.0 ∙ same_line in
     record {
@@ -131,7 +129,7 @@ block_before job found s statements lines new rest read one others = record {
 blocks_taken : (end : ℕ) (job : Job) (found : List Grid) (statements : List Statement) (lines : List Line) (read : List Grid × List Line) → job.modulus ≤ 2 ^ 64 → HaveShortSizes job statements → AreLines end lines
     → blocks_at end job found statements lines ≡ Ok read → BlocksTaken job found statements lines read
 unfolding blocks_at
-blocks_taken end job found [] lines read small short are e = subst (BlocksTaken job found [] lines) (same_ok {F = JobFault} (found, lines) read e)
+blocks_taken end job found [] lines read small short are e = subst (BlocksTaken job found [] lines) (same_ok {F = Fault} (found, lines) read e)
     (record { own = []; grids = []; lines_are = refl; all = sym (append-nil found); words = refl; named = All-nil (λ s. IsTrue (is_name (work_name job s))); each = tt })
 blocks_taken end job found (s ∷ statements) lines read small short are e =
     let step = bind_ok (block_at end job.modulus (work_name job s) (work_grid job s) lines) (λ read. blocks_at end job (found ++ read.0 ∷ []) statements read.1) read e in
@@ -154,7 +152,7 @@ after_taken end job lines grids small short are e =
     let last = bind_ok (nothing_at read.0.1) (λ done. Ok read.0.0) grids read.2 in
     let taken = blocks_taken end job [] job.statements lines read.0 small short are read.1 in
     let whole : lines ≡ taken.own = taken.lines_are ∙ ap (λ (ls : List Line). taken.own ++ ls) (no_line read.0.1 last.0 last.1) ∙ append-nil taken.own in
-    let same : taken.grids ≡ grids = sym taken.all ∙ same_ok {F = JobFault} read.0.0 grids last.2 in
+    let same : taken.grids ≡ grids = sym taken.all ∙ same_ok {F = Fault} read.0.0 grids last.2 in
     (ap words_of whole ∙ taken.words ∙ ap (after_blocks job job.statements) same, taken.named, subst (AreAfter job job.statements) same taken.each)
 
 pub after_spelled : (bytes : List ℕ) (rest : Rest) (job : Job) (grids : List Grid) → job.modulus ≤ 2 ^ 64 → HaveShortSizes job job.statements → after_in bytes rest job ≡ Ok grids → SpellsAfter bytes rest job grids
@@ -163,20 +161,20 @@ after_spelled bytes rest job grids small short e = by_tokens (tokens_of rest.lin
     text : List ℕ
     text = drop rest.at bytes
 
-    by_tokens : (read : Result (List Token) ScanFault) → tokens_of rest.line text ≡ read → after_of rest.line text job read ≡ Ok grids → SpellsAfter bytes rest job grids
+    by_tokens : (read : Result (List Token) BadByte) → tokens_of rest.line text ≡ read → after_of rest.line text job read ≡ Ok grids → SpellsAfter bytes rest job grids
     by_tokens (Err fault) is none = absurd cc
     by_tokens (Ok tokens) is all =
         let taken = after_taken (end_line_of rest.line text) job (lines_of text tokens) grids small short (AreLines-from_tokens rest.line text tokens (AreTokens-scanned rest.line text tokens is)) all in
         record { tokens = tokens; scanned = is; text = taken.0; named = taken.1; each = taken.2 }
 
 -- what the reader found
-pub after_found : (bytes : List ℕ) (rest : Rest) (job : Job) (read : Result (List Grid) JobFault) → job.modulus ≤ 2 ^ 64 → Gives text_fault (λ (grids : List Grid). grids) read (after_in bytes rest job) → IfOk read (λ grids. HaveShortSizes job job.statements)
+pub after_found : (bytes : List ℕ) (rest : Rest) (job : Job) (read : Result (List Grid) JobFault) → job.modulus ≤ 2 ^ 64 → Gives job_fault (λ (grids : List Grid). grids) read (after_in bytes rest job) → IfOk read (λ grids. HaveShortSizes job job.statements)
     → IfOk read (λ grids. SpellsAfter bytes rest job grids)
 after_found bytes rest job (Ok grids) small gives short = after_spelled bytes rest job grids small short gives
 after_found bytes rest job (Err fault) small gives short = tt
 
 -- where no statement is
-pub none_found : (bytes : List ℕ) (rest : Rest) (job : Job) (read : Result (List Grid) JobFault) → job.modulus ≤ 2 ^ 64 → Gives text_fault (λ (grids : List Grid). grids) read (after_in bytes rest job) → IfOk read (λ grids. job.statements ≡ [])
+pub none_found : (bytes : List ℕ) (rest : Rest) (job : Job) (read : Result (List Grid) JobFault) → job.modulus ≤ 2 ^ 64 → Gives job_fault (λ (grids : List Grid). grids) read (after_in bytes rest job) → IfOk read (λ grids. job.statements ≡ [])
     → IfOk read (λ grids. SpellsAfter bytes rest job grids)
 none_found bytes rest job (Ok grids) small gives none =
     let short : HaveShortSizes job job.statements = subst (HaveShortSizes job) (sym none) (All-nil (λ s. HasShortSizes (work_grid job s))) in

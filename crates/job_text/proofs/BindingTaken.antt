@@ -10,11 +10,11 @@ use Rattle.residue_sums.specs.Grids.{Grid}
 use Rattle.text_scan.specs.Lines.{Line}
 use Rattle.text_scan.proofs.FaultTests.{passed_by}
 use Rattle.byte_texts.proofs.Binding.{same_ok}
+use Rattle.text_scan.specs.Faults.{Fault}
 use Rattle.operation_spec.specs.declared.operation.Operation.{Operation}
 use Rattle.operation_spec.specs.declared.operation.Operand.{Operand}
 use Rattle.equation.specs.declared.job.Statement.{Statement}
 use Rattle.equation.specs.Jobs.{no_grid, nth_grid, HasLengths, Fits}
-use Rattle.job_text.specs.declared.fault.JobFault.{JobFault}
 use Rattle.job_text.specs.declared.binding.Length.{Length}
 use Rattle.job_text.specs.JobFaults.{lengths_of, has_two_lengths, statement_of, has_alias, is_misbound, bound_at, nth_bound}
 use Rattle.job_text.proofs.BoundAgain.{nth_bound-at, nth_bound-none}
@@ -119,7 +119,7 @@ unfolding bound_at
 bound_taken line op grids n bound s e =
     let binding = passed_by _ _ _ s e in
     let alias = passed_by _ _ _ s binding.1 in
-    (binding.0, alias.0, same_ok {F = JobFault} (statement_of n bound) s alias.1)
+    (binding.0, alias.0, same_ok {F = Fault} (statement_of n bound) s alias.1)
 
 pub nth_bound_taken : (line : Line) (operations : List Operation) (grids : List Grid) (n : ℕ) (bound : List ℕ) (s : Statement) → All (λ k. k < length grids) bound
     → nth_bound line operations grids n bound ≡ Ok s → BoundTaken operations grids n bound s

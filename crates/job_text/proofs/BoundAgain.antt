@@ -1,16 +1,15 @@
 -- Matrices that fit an operation are held against it without a fault. Cited by what shows that a statement's line is read
 -- as the statement.
-use Rattle.std.proofs.Common.{◌≡◌, ℕ, zero, suc, ◌<◌, false, List, [], ◌∷◌, length, get_or, map, Result, Ok, Err, Some, slice_get, refl, ap, ◌∙◌, arith, eq-eqb, None}
+use Rattle.std.proofs.Common.{◌≡◌, ℕ, zero, suc, ◌<◌, false, List, ◌∷◌, length, get_or, map, Ok, Err, Some, slice_get, refl, ap, arith, eq-eqb, None}
 use Rattle.std.proofs.lemmas.Bool.{not_from_true, or_from}
 use Rattle.residue_sums.specs.Grids.{Grid}
+use Rattle.text_scan.specs.Faults.{◌on◌}
+use Rattle.text_scan.specs.FaultKinds.{NameUnknown}
 use Rattle.text_scan.specs.Lines.{Line}
 use Rattle.text_scan.proofs.FaultTests.{passes_by}
 use Rattle.operation_spec.specs.declared.operation.Binding.{Binding}
 use Rattle.operation_spec.specs.declared.operation.Operation.{Operation}
-use Rattle.equation.specs.declared.job.Statement.{Statement}
 use Rattle.equation.specs.Jobs.{Fits, HasLengths, nth_grid}
-use Rattle.job_text.specs.declared.fault.JobFault.{JobFault}
-use Rattle.job_text.specs.declared.fault.JobFault.TheVariants.{NameUnknown}
 use Rattle.job_text.specs.JobFaults.{is_misbound, lengths_of, has_two_lengths, bound_at, nth_bound}
 use Rattle.job_text.proofs.ItemsAgain.{has_number-none}
 use Rattle.job_text.proofs.LengthsAgain.{has_two_lengths-one, lengths_of-has}
@@ -42,31 +41,11 @@ bound_at-fits line op grids n bind fits = passes_by _ (is_misbound-fits op grids
 
 -- ---- the operation with a number
 
--- what an operation among others makes of the matrices: the statement's number n stays, and k counts down to it
-abbrev bound_in : Line → List Grid → ℕ → List ℕ → List Operation → ℕ → Result Statement JobFault
-bound_in line grids n bound [] k = Err (NameUnknown line.number)
-bound_in line grids n bound (op ∷ ops) zero = bound_at line op grids n bound
-bound_in line grids n bound (op ∷ ops) (suc k) = bound_in line grids n bound ops k
-
-nth_bound-in : (line : Line) (ops : List Operation) (grids : List Grid) (n : ℕ) (bound : List ℕ) → nth_bound line ops grids n bound ≡ bound_in line grids n bound ops n
-nth_bound-in line ops grids n bound = refl
-
-bound_in-at : (line : Line) (grids : List Grid) (n : ℕ) (bound : List ℕ) (ops : List Operation) (k : ℕ) (op : Operation) → slice_get ops k ≡ Some op
-    → bound_in line grids n bound ops k ≡ bound_at line op grids n bound
-bound_in-at line grids n bound [] k op found = absurd cc
-bound_in-at line grids n bound (o ∷ ops) zero op found = ap (λ (p : Operation). bound_at line p grids n bound) (cc)
-bound_in-at line grids n bound (o ∷ ops) (suc k) op found = bound_in-at line grids n bound ops k op found
-
 -- where there is an operation with the number, it decides
 pub nth_bound-at : (line : Line) (ops : List Operation) (grids : List Grid) (n : ℕ) (bound : List ℕ) (op : Operation) → slice_get ops n ≡ Some op
     → nth_bound line ops grids n bound ≡ bound_at line op grids n bound
-nth_bound-at line ops grids n bound op found = nth_bound-in line ops grids n bound ∙ bound_in-at line grids n bound ops n op found
-
-bound_in-none : (line : Line) (grids : List Grid) (n : ℕ) (bound : List ℕ) (ops : List Operation) (k : ℕ) → slice_get ops k ≡ None → bound_in line grids n bound ops k ≡ Err (NameUnknown line.number)
-bound_in-none line grids n bound [] k past = refl
-bound_in-none line grids n bound (op ∷ ops) zero past = absurd cc
-bound_in-none line grids n bound (op ∷ ops) (suc k) past = bound_in-none line grids n bound ops k past
+nth_bound-at line ops grids n bound op found = rw found refl
 
 -- there is none
-pub nth_bound-none : (line : Line) (ops : List Operation) (grids : List Grid) (n : ℕ) (bound : List ℕ) → slice_get ops n ≡ None → nth_bound line ops grids n bound ≡ Err (NameUnknown line.number)
-nth_bound-none line ops grids n bound past = nth_bound-in line ops grids n bound ∙ bound_in-none line grids n bound ops n past
+pub nth_bound-none : (line : Line) (ops : List Operation) (grids : List Grid) (n : ℕ) (bound : List ℕ) → slice_get ops n ≡ None → nth_bound line ops grids n bound ≡ Err (NameUnknown on line.number)
+nth_bound-none line ops grids n bound past = rw past refl

@@ -4,6 +4,7 @@ use Rattle.std.specs.List.{list_all}
 use Rattle.std.proofs.lemmas.Bool.{and_parts, or_parts, not-false}
 use Rattle.residue_sums.specs.Residues.{IsModulus}
 use Rattle.byte_texts.proofs.Binding.{bind_ok, same_ok}
+use Rattle.text_scan.specs.Faults.{Fault}
 use Rattle.text_scan.specs.LineOrder.{AreLines}
 use Rattle.text_scan.specs.Lines.{Line, due_line}
 use Rattle.text_scan.specs.Words.{is_word, is_number}
@@ -11,9 +12,7 @@ use Rattle.text_scan.proofs.FaultTests.{passed_by}
 use Rattle.text_scan.proofs.LineOrders.{AreLines-parts, is_line-words}
 use Rattle.text_scan.proofs.NumberTexts.{number_word}
 use Rattle.operation_spec.proofs.FoundNames.{text_is}
-use Rattle.job_text.specs.declared.fault.JobFault.{JobFault}
-use Rattle.job_text.specs.declared.fault.JobFault.TheVariants.{Syntax}
-use Rattle.job_text.specs.JobFaults.{or_else, is_header, header_at, is_modulus_line, modulus_of, modulus_at, first_lines_at}
+use Rattle.job_text.specs.JobFaults.{is_header, header_at, is_modulus_line, modulus_of, modulus_at, first_lines_at}
 
 -- ---- `flame 1`
 
@@ -29,7 +28,7 @@ header_taken end [] behind e = absurd cc
 header_taken end (line ∷ lines) behind e =
     let form = passed_by _ _ _ behind e in
     let inner = passed_by _ _ _ behind form.1 in
-    (line, ap (λ (ls : List Line). line ∷ ls) (same_ok {F = JobFault} lines behind inner.1), header_words line.words (not-false _ form.0))
+    (line, ap (λ (ls : List Line). line ∷ ls) (same_ok {F = Fault} lines behind inner.1), header_words line.words (not-false _ form.0))
 
 -- ---- `modulus M`
 
@@ -51,7 +50,7 @@ modulus_taken line m are e =
     let form = passed_by _ _ _ m e in
     let range = passed_by _ _ _ m form.1 in
     let is = modulus_within (modulus_of line.words) range.0 in
-    subst (λ (n : ℕ). (line.words ≡ codes "modulus" ∷ decimal n ∷ []) × IsModulus n) (same_ok {F = JobFault} (modulus_of line.words) m range.1)
+    subst (λ (n : ℕ). (line.words ≡ codes "modulus" ∷ decimal n ∷ []) × IsModulus n) (same_ok {F = Fault} (modulus_of line.words) m range.1)
     (modulus_words line.words are (not-false _ form.0) (omega (arith, is.below_limit)), is)
 
 -- ---- both
@@ -66,9 +65,9 @@ pub record FirstTaken (end : ℕ) (lines : List Line) (m : ℕ) (rest : List Lin
   pub modulus : IsModulus m
   pub are : AreLines end rest
 
-due_taken : (end : ℕ) (lines : List Line) (x : Line × List Line) → or_else Syntax (due_line end lines) ≡ Ok x → lines ≡ x.0 ∷ x.1
+due_taken : (end : ℕ) (lines : List Line) (x : Line × List Line) → due_line end lines ≡ Ok x → lines ≡ x.0 ∷ x.1
 due_taken end [] x e = absurd cc
-due_taken end (line ∷ lines) x e = ap (λ (p : Line × List Line). p.0 ∷ p.1) (same_ok {F = JobFault} (line, lines) x e)
+due_taken end (line ∷ lines) x e = ap (λ (p : Line × List Line). p.0 ∷ p.1) (same_ok {F = Fault} (line, lines) x e)
 
 pub first_lines_taken : (end : ℕ) (lines : List Line) (m : ℕ) (rest : List Line) → AreLines end lines → first_lines_at end lines ≡ Ok (m, rest) → FirstTaken end lines m rest
 unfolding first_lines_at
@@ -81,7 +80,7 @@ first_lines_taken end lines m rest are e =
     let others = (AreLines-parts (subst (AreLines end) header.1 are)).others in
     let is = AreLines-parts (subst (AreLines end) next others) in
     let taken = modulus_taken second.0.0 modulus.0 (is_line-words second.0.0.words is.words) modulus.1 in
-    subst (λ (x : ℕ × List Line). FirstTaken end lines x.0 x.1) (same_ok {F = JobFault} (modulus.0, second.0.1) (m, rest) modulus.2) (record {
+    subst (λ (x : ℕ × List Line). FirstTaken end lines x.0 x.1) (same_ok {F = Fault} (modulus.0, second.0.1) (m, rest) modulus.2) (record {
       header = header.0;
       second = second.0.0;
       lines_are = header.1 ∙ ap (λ (ls : List Line). header.0 ∷ ls) next;

@@ -1,8 +1,7 @@
 -- Lines that spell a job are read as the job, and so is a text that spells it. Cited by the law that says so.
-use Rattle.std.proofs.Common.{◌≡◌, ℕ, ◌+◌, ◌≤◌, false, List, [], ◌∷◌, ◌++◌, length, take, map, codes, Ok, bytes_eq, refl, sym, ap, subst, ◌∙◌, arith, length-append}
+use Rattle.std.proofs.Common.{◌≡◌, ℕ, suc, ◌≤◌, false, List, [], ◌∷◌, ◌++◌, length, take, map, codes, Ok, bytes_eq, refl, sym, ap, subst, ◌∙◌, arith}
 use Rattle.std.specs.Fmt.{decimal}
 use Rattle.std.specs.List.{flat_map}
-use Rattle.std.proofs.lemmas.List.{length-map}
 use Rattle.residue_sums.specs.Grids.{Grid}
 use Rattle.text_scan.specs.declared.Rest.{Rest}
 use Rattle.text_scan.specs.LineOrder.{AreLines}
@@ -10,15 +9,13 @@ use Rattle.text_scan.specs.Lines.{Line, lines_of, end_line_of}
 use Rattle.text_scan.specs.Tokens.{tokens_of}
 use Rattle.text_scan.proofs.LineOrders.{AreLines-behind, AreLines-from_tokens}
 use Rattle.text_scan.proofs.ScannedTokens.{AreTokens-scanned}
-use Rattle.operation_spec.specs.declared.operation.Operation.{Operation}
 use Rattle.operation_spec.specs.OperationLines.{operation_lines}
 use Rattle.operation_spec.proofs.ImageParts.{map_cons}
-use Rattle.matrix_text.specs.MatrixLines.{matrix_lines}
 use Rattle.equation.specs.declared.job.Job.{Job}
 use Rattle.equation.specs.declared.job.Statement.{Statement}
 use Rattle.equation.specs.Jobs.{IsJob}
 use Rattle.job_text.specs.declared.stop.Stop.{Stop}
-use Rattle.job_text.specs.JobFaults.{first_lines_at, operations_at, matrices_at, statements_at, prints_at, nothing_at, job_at, sections_at}
+use Rattle.job_text.specs.JobFaults.{operation_limit, matrix_limit, first_lines_at, operations_at, matrices_at, statements_at, prints_at, nothing_at, job_at, sections_at}
 use Rattle.job_text.specs.JobLines.{job_lines, matrix_blocks, print_line, statement_line}
 use Rattle.job_text.specs.SpelledJobs.{IsWritable, HasRest, IsTextOf, Spells, SpellsJob, job_in, job_of, rest_in}
 use Rattle.job_text.proofs.HeaderAgain.{first_lines_at-lines}
@@ -75,19 +72,6 @@ job_parts job lines same =
       sections = four_sections modulus.1 _ _ _ _ modulus.4;
     }
 
--- ---- there are as many lines as blocks
-
--- of operations
-operations_few : (ops : List Operation) → length ops ≤ length (flat_map operation_lines ops)
-operations_few [] = omega arith
-operations_few (op ∷ ops) = omega (arith, operations_few ops, length-append (operation_lines op) (flat_map operation_lines ops))
-
--- of matrices
-matrices_few : (names : List (List ℕ)) (grids : List Grid) → length names ≡ length grids → length grids ≤ length (matrix_blocks names grids)
-matrices_few names [] same = omega arith
-matrices_few [] (g ∷ grids) same = absurd (omega arith)
-matrices_few (name ∷ names) (g ∷ grids) same = omega (arith, matrices_few names grids (omega arith), length-append (matrix_lines name g) (matrix_blocks names grids))
-
 -- ---- what a job that can be written has
 
 -- its operations
@@ -110,8 +94,8 @@ are_matrices job valid writable = record {
 -- a job whose sections are read one after another
 job_at-sections : (end : ℕ) (job : Job) (lines behind_first behind_operations behind_matrices behind_statements : List Line)
     → first_lines_at end lines ≡ Ok (job.modulus, behind_first)
-    → operations_at (length lines) end [] behind_first ≡ Ok (job.operations, behind_operations)
-    → matrices_at (length lines) end job.modulus (record { names = []; grids = [] }) behind_operations ≡ Ok (matrices_of job, behind_matrices)
+    → operations_at (suc operation_limit) end [] behind_first ≡ Ok (job.operations, behind_operations)
+    → matrices_at (suc matrix_limit) end job.modulus (record { names = []; grids = [] }) behind_operations ≡ Ok (matrices_of job, behind_matrices)
     → statements_at job.operations (matrices_of job) [] behind_matrices ≡ Ok (job.statements, behind_statements)
     → prints_at job.names [] behind_statements ≡ Ok (job.prints, []) → job_at end lines ≡ Ok job
 unfolding job_at sections_at nothing_at
@@ -133,24 +117,20 @@ module _ (end : ℕ) (job : Job) (lines : List Line) (valid : IsJob job) (writab
       ap (first_lines_at end) p.parts ∙ first_lines_at-lines end job.modulus p.header p.modulus p.behind (subst (AreLines end) p.parts in_order) p.header_words p.modulus_words valid.modulus
       ∙ ap (λ (ls : List Line). Ok (job.modulus, ls)) p.sections.parts
 
-  -- no section has more lines than the job
-  count : length p.sections.first + length p.sections.second ≤ length lines
-  count = omega (arith, ap length p.parts, ap length p.sections.parts, length-append p.sections.first behind_operations, length-append p.sections.second behind_matrices)
-
-  operations_read : operations_at (length lines) end [] (p.sections.first ++ behind_operations) ≡ Ok (job.operations, behind_operations)
+  operations_read : operations_at (suc operation_limit) end [] (p.sections.first ++ behind_operations) ≡ Ok (job.operations, behind_operations)
   operations_read =
-      let enough : length job.operations ≤ length lines = omega (arith, count, operations_few job.operations, ap length p.sections.first_words, length-map p.sections.first (λ (l : Line). l.words)) in
+      let enough : length job.operations ≤ suc operation_limit = omega (arith, writable.operations) in
       let word = codes "operation" in
       let other = matrices_first job word refl job.names job.matrices _ (statements_first job word refl job.statements _ (prints_first job word refl job.prints)) in
-      operations_at-lines end [] job.operations job.operations (length lines) p.sections.first behind_operations refl (are_operations job valid writable) sections_in_order p.sections.first_words
+      operations_at-lines end [] job.operations job.operations (suc operation_limit) p.sections.first behind_operations refl (are_operations job valid writable) sections_in_order p.sections.first_words
       (ap (first_begins word) p.sections.behind_first ∙ other) enough
 
-  matrices_read : matrices_at (length lines) end job.modulus (record { names = []; grids = [] }) behind_operations ≡ Ok (matrices_of job, behind_matrices)
+  matrices_read : matrices_at (suc matrix_limit) end job.modulus (record { names = []; grids = [] }) behind_operations ≡ Ok (matrices_of job, behind_matrices)
   matrices_read =
-      let enough : length job.matrices ≤ length lines = omega (arith, count, matrices_few job.names job.matrices valid.named, ap length p.sections.second_words, length-map p.sections.second (λ (l : Line). l.words)) in
+      let enough : length job.matrices ≤ suc matrix_limit = omega (arith, writable.matrices) in
       let word = codes "matrix" in
       let other = statements_first job word refl job.statements _ (prints_first job word refl job.prints) in
-      matrices_at-lines end job.modulus (record { names = []; grids = [] }) job.names job.matrices (matrices_of job) (length lines) p.sections.second behind_matrices valid.named refl refl
+      matrices_at-lines end job.modulus (record { names = []; grids = [] }) job.names job.matrices (matrices_of job) (suc matrix_limit) p.sections.second behind_matrices valid.named refl refl
       (are_matrices job valid writable) (AreLines-behind p.sections.first behind_operations sections_in_order) p.sections.second_words (ap (first_begins word) p.sections.behind_second ∙ other) enough
 
   statements_read : statements_at job.operations (matrices_of job) [] behind_matrices ≡ Ok (job.statements, p.sections.fourth)

@@ -3,27 +3,17 @@ use Rattle.std.proofs.Common.{◌≡◌, ℕ, zero, suc, get_or, drop, ◌+◌, 
 use Rattle.std.proofs.lemmas.List.{at_drop_all, at_drop_more, take_all}
 use Rattle.byte_texts.specs.Reading.{◌>>=◌, Gives}
 use Rattle.text_scan.specs.declared.Rest.{Rest}
-use Rattle.text_scan.specs.declared.token.ScanFault.{ScanFault}
-use Rattle.text_scan.specs.declared.token.ScanFault.TheVariants as scan_faults
 use Rattle.text_scan.specs.declared.token.Token.{Token}
-use Rattle.text_scan.specs.Lines.{Line, end_line_of, lines_of}
-use Rattle.text_scan.specs.Tokens.{tokens_of}
-use Rattle.operation_spec.specs.OperationFaults.{begins_with}
+use Rattle.text_scan.specs.Lines.{Line, end_line_of, lines_of, begins_with}
+use Rattle.text_scan.specs.Tokens.{BadByte, scanned, tokens_of}
 use Rattle.equation.specs.declared.job.Job.{Job}
 use Rattle.job_text.specs.declared.fault.JobFault.{JobFault}
 use Rattle.job_text.specs.declared.stop.Stop.{Stop}
 use Rattle.job_text.specs.declared.stop.Stop.TheVariants.{Nothing, Worksheet, After}
-use Rattle.job_text.specs.JobFaults.{first_lines_at, header_at, job_at, modulus_at, or_else, fault_of_scan, sections_at}
-use Rattle.job_text.specs.Sections.{due_at, text_fault}
-use Rattle.job_text.specs.SecondParts.{behind_first, from_word, front_at, front_in, rest_at, stops}
+use Rattle.job_text.specs.JobFaults.{job_fault}
+use Rattle.job_text.specs.SecondParts.{from_word, front_at, front_in, rest_at}
 use Rattle.job_text.specs.SpelledJobs.{Spells, is_stop_line, job_in, job_of, place_behind, rest_in, rest_of}
 use Rattle.job_text.proofs.JobTaken.{read_job_spelled}
-
--- the first two lines, and the sections behind them
-pub job_at-sections : (end : ℕ) (lines behind rest : List Line) (line : Line) (m : ℕ) → header_at end lines ≡ Ok behind → due_at end behind ≡ Ok (line, rest) → modulus_at line ≡ Ok m
-    → job_at end lines ≡ sections_at (length lines) end m rest
-unfolding job_at first_lines_at sections_at
-job_at-sections end lines behind rest line m header due modulus = rw (header, due, modulus) refl
 
 -- ---- the second part of an input
 
@@ -48,19 +38,17 @@ rest_of-nothing bytes [] = refl
 rest_of-nothing bytes (line ∷ lines) = rest_of-nothing bytes lines
 
 -- a job up to the end of the bytes
-pub job_in-nothing : (bytes : List ℕ) (r : Result (List Token) ScanFault) → tokens_of 1 bytes ≡ r
+pub job_in-nothing : (bytes : List ℕ) (r : Result (List Token) BadByte) → tokens_of 1 bytes ≡ r
     → job_in Nothing bytes ≡ (job_of bytes (tokens_of 1 bytes) >>= λ job. Ok (job, record { at = length bytes; line = end_line_of 1 bytes }))
 unfolding job_in
 job_in-nothing bytes (Ok tokens) is = rw (is, rest_of-nothing bytes (lines_of bytes tokens), take_all (length bytes) bytes (omega arith), is) refl
-job_in-nothing bytes (Err scan_faults.Memory) is = rw is refl
-job_in-nothing bytes (Err (scan_faults.BadByte at line)) is = rw is refl
+job_in-nothing bytes (Err bad) is = rw is refl
 
 -- a job up to the line that begins with the word
-front_steps : (stop : Stop) (w bytes : List ℕ) (r : Result (List Token) ScanFault) → ((tokens : List Token) → rest_of stop bytes (lines_of bytes tokens) ≡ rest_at bytes (from_word w (lines_of bytes tokens)))
-    → (rest_in stop bytes r >>= λ rest. job_of (take rest.at bytes) (tokens_of 1 (take rest.at bytes)) >>= λ job. Ok (job, rest)) ≡ ((or_else fault_of_scan r >>= λ tokens. Ok (rest_at bytes (from_word w (lines_of bytes tokens)))) >>= λ rest. front_at bytes rest)
+front_steps : (stop : Stop) (w bytes : List ℕ) (r : Result (List Token) BadByte) → ((tokens : List Token) → rest_of stop bytes (lines_of bytes tokens) ≡ rest_at bytes (from_word w (lines_of bytes tokens)))
+    → (rest_in stop bytes r >>= λ rest. job_of (take rest.at bytes) (tokens_of 1 (take rest.at bytes)) >>= λ job. Ok (job, rest)) ≡ ((scanned r >>= λ tokens. Ok (rest_at bytes (from_word w (lines_of bytes tokens)))) >>= λ rest. front_at bytes rest)
 front_steps stop w bytes (Ok tokens) same = ap (front_at bytes) (same tokens)
-front_steps stop w bytes (Err scan_faults.Memory) same = refl
-front_steps stop w bytes (Err (scan_faults.BadByte at line)) same = refl
+front_steps stop w bytes (Err bad) same = refl
 
 pub job_in-worksheet : (bytes : List ℕ) → job_in Worksheet bytes ≡ front_in (codes "worksheet") bytes
 unfolding job_in
@@ -71,14 +59,6 @@ unfolding job_in
 job_in-after bytes = front_steps After (codes "after") bytes (tokens_of 1 bytes) (λ tokens. rest_of-after bytes (lines_of bytes tokens))
 
 -- ---- going to the line that begins so
-
-pub from_word-here : (w : List ℕ) (lines : List Line) → stops w lines ≡ true → from_word w lines ≡ lines
-from_word-here w [] here = refl
-from_word-here w (line ∷ lines) here = rw here refl
-
-pub from_word-on : (w : List ℕ) (lines : List Line) → stops w lines ≡ false → (from_word w lines ≡ from_word w (behind_first lines)) × (length (behind_first lines) < length lines)
-from_word-on w [] other = absurd cc
-from_word-on w (line ∷ lines) other = (rw other refl, omega arith)
 
 -- ---- the place of a line
 
@@ -106,6 +86,6 @@ place_behind-none bytes left at past = at_drop_all (place_behind left) bytes at 
 
 -- ---- what was read is spelled so
 
-pub found_from_read : (stop : Stop) (bytes : List ℕ) (read : Result (Job × Rest) JobFault) → Gives text_fault (λ (x : Job × Rest). (x.0, x.1)) read (job_in stop bytes) → IfOk read (λ x. Spells bytes stop x.0 x.1)
+pub found_from_read : (stop : Stop) (bytes : List ℕ) (read : Result (Job × Rest) JobFault) → Gives job_fault (λ (x : Job × Rest). (x.0, x.1)) read (job_in stop bytes) → IfOk read (λ x. Spells bytes stop x.0 x.1)
 found_from_read stop bytes (Ok x) gives = read_job_spelled stop bytes x.0 x.1 gives
 found_from_read stop bytes (Err e) gives = tt

@@ -1,23 +1,21 @@
 -- A job that was read is valid and spelled by its lines, and a text that was read is a text of its job. Cited by the law
 -- that what is read is spelled so.
-use Rattle.std.proofs.Common.{◌≡◌, ℕ, ◌<◌, List, [], ◌∷◌, ◌++◌, length, take, map, Result, Ok, Err, All, refl, sym, ap, ◌∙◌, subst, arith, append-nil}
+use Rattle.std.proofs.Common.{◌≡◌, ℕ, suc, ◌<◌, List, [], ◌∷◌, ◌++◌, take, map, Result, Ok, Err, All, refl, sym, ap, ◌∙◌, subst, arith, append-nil}
 use Rattle.std.specs.List.{flat_map}
 use Rattle.byte_texts.proofs.Binding.{bind_ok, same_ok}
+use Rattle.text_scan.specs.Faults.{Fault}
 use Rattle.text_scan.specs.declared.token.Token.{Token}
 use Rattle.text_scan.specs.declared.Rest.{Rest}
-use Rattle.text_scan.specs.declared.token.ScanFault.{ScanFault}
-use Rattle.text_scan.specs.declared.token.ScanFault.TheVariants as scan_faults
 use Rattle.text_scan.specs.LineOrder.{AreLines}
 use Rattle.text_scan.specs.Lines.{Line, end_line_of, lines_of}
-use Rattle.text_scan.specs.Tokens.{tokens_of}
+use Rattle.text_scan.specs.Tokens.{tokens_of, BadByte}
 use Rattle.text_scan.proofs.LineOrders.{AreLines-from_tokens}
 use Rattle.text_scan.proofs.ScannedTokens.{AreTokens-scanned}
 use Rattle.operation_spec.specs.OperationLines.{operation_lines}
 use Rattle.equation.specs.declared.job.Job.{Job}
 use Rattle.equation.specs.Jobs.{IsJob}
-use Rattle.job_text.specs.declared.fault.JobFault.{JobFault}
 use Rattle.job_text.specs.declared.stop.Stop.{Stop}
-use Rattle.job_text.specs.JobFaults.{first_lines_at, operations_at, matrices_at, statements_at, prints_at, nothing_at, job_at, sections_at}
+use Rattle.job_text.specs.JobFaults.{matrix_limit, operation_limit, first_lines_at, operations_at, matrices_at, statements_at, prints_at, nothing_at, job_at, sections_at}
 use Rattle.job_text.specs.JobLines.{job_lines, matrix_blocks, print_line, statement_line}
 use Rattle.job_text.specs.SpelledJobs.{IsWritable, SpellsJob, IsTextOf, Spells, rest_of, job_of, rest_in, job_in}
 use Rattle.job_text.proofs.HeaderTaken.{FirstTaken, first_lines_taken}
@@ -42,8 +40,8 @@ record JobSteps (end : ℕ) (lines : List Line) (job : Job) : Type 0 where
   behind_matrices : List Line
   behind_statements : List Line
   first : first_lines_at end lines ≡ Ok (job.modulus, behind)
-  operations : operations_at (length lines) end [] behind ≡ Ok (job.operations, behind_operations)
-  matrices : matrices_at (length lines) end job.modulus no_matrix behind_operations ≡ Ok (matrices_of job, behind_matrices)
+  operations : operations_at (suc operation_limit) end [] behind ≡ Ok (job.operations, behind_operations)
+  matrices : matrices_at (suc matrix_limit) end job.modulus no_matrix behind_operations ≡ Ok (matrices_of job, behind_matrices)
   statements : statements_at job.operations (matrices_of job) [] behind_matrices ≡ Ok (job.statements, behind_statements)
   prints : prints_at job.names [] behind_statements ≡ Ok (job.prints, [])
 
@@ -51,8 +49,8 @@ job_steps : (end : ℕ) (lines : List Line) (job : Job) → job_at end lines ≡
 unfolding job_at sections_at
 job_steps end lines job e =
     let first = bind_ok (first_lines_at end lines) _ job e in
-    let operations = bind_ok (operations_at (length lines) end [] first.0.1) _ job first.2 in
-    let matrices = bind_ok (matrices_at (length lines) end first.0.0 no_matrix operations.0.1) _ job operations.2 in
+    let operations = bind_ok (operations_at (suc operation_limit) end [] first.0.1) _ job first.2 in
+    let matrices = bind_ok (matrices_at (suc matrix_limit) end first.0.0 no_matrix operations.0.1) _ job operations.2 in
     let statements = bind_ok (statements_at operations.0.0 matrices.0.0 [] matrices.0.1) _ job matrices.2 in
     let prints = bind_ok (prints_at matrices.0.0.names [] statements.0.1) _ job statements.2 in
     let done = bind_ok (nothing_at prints.0.1) _ job prints.2 in
@@ -65,7 +63,7 @@ job_steps end lines job e =
       statements = statements.0.0;
       prints = prints.0.0;
     } in
-    subst (JobSteps end lines) (same_ok {F = JobFault} read job done.2) (record {
+    subst (JobSteps end lines) (same_ok {F = Fault} read job done.2) (record {
       behind = first.0.1;
       behind_operations = operations.0.1;
       behind_matrices = matrices.0.1;
@@ -88,9 +86,9 @@ record Sections (end : ℕ) (lines : List Line) (job : Job) (steps : JobSteps en
 sections_taken : (end : ℕ) (lines : List Line) (job : Job) (steps : JobSteps end lines job) → AreLines end lines → Sections end lines job steps
 sections_taken end lines job steps are =
     let first = first_lines_taken end lines job.modulus steps.behind are steps.first in
-    let operations = operations_taken (length lines) end [] steps.behind (job.operations, steps.behind_operations) first.are no_operations steps.operations in
+    let operations = operations_taken (suc operation_limit) end [] steps.behind (job.operations, steps.behind_operations) first.are no_operations steps.operations in
     let others = lines_behind end steps.behind operations.own steps.behind_operations first.are operations.lines_are in
-    let matrices = matrices_taken (length lines) end job.modulus no_matrix steps.behind_operations (matrices_of job, steps.behind_matrices) first.modulus.below_limit others
+    let matrices = matrices_taken (suc matrix_limit) end job.modulus no_matrix steps.behind_operations (matrices_of job, steps.behind_matrices) first.modulus.below_limit others
     (no_matrices job.modulus) steps.matrices in
     let each = matrices.are.each in
     record {
@@ -168,17 +166,15 @@ job_taken end lines job are e =
 -- ---- the text
 
 -- the tokens of bytes that have a second part
-rest_taken : (stop : Stop) (bytes : List ℕ) (scan : Result (List Token) ScanFault) (rest : Rest) → rest_in stop bytes scan ≡ Ok rest
+rest_taken : (stop : Stop) (bytes : List ℕ) (scan : Result (List Token) BadByte) (rest : Rest) → rest_in stop bytes scan ≡ Ok rest
     → (tokens : List Token) × (scan ≡ Ok tokens) × (rest ≡ rest_of stop bytes (lines_of bytes tokens))
-rest_taken stop bytes (Err scan_faults.Memory) rest e = absurd cc
-rest_taken stop bytes (Err (scan_faults.BadByte at line)) rest e = absurd cc
-rest_taken stop bytes (Ok tokens) rest e = (tokens, refl, sym (same_ok {F = JobFault} (rest_of stop bytes (lines_of bytes tokens)) rest e))
+rest_taken stop bytes (Err bad) rest e = absurd cc
+rest_taken stop bytes (Ok tokens) rest e = (tokens, refl, sym (same_ok {F = Fault} (rest_of stop bytes (lines_of bytes tokens)) rest e))
 
 -- the tokens of bytes that are a text of a job
-tokens_taken : (bytes : List ℕ) (scan : Result (List Token) ScanFault) (job : Job) → job_of bytes scan ≡ Ok job
+tokens_taken : (bytes : List ℕ) (scan : Result (List Token) BadByte) (job : Job) → job_of bytes scan ≡ Ok job
     → (tokens : List Token) × (scan ≡ Ok tokens) × (job_at (end_line_of 1 bytes) (lines_of bytes tokens) ≡ Ok job)
-tokens_taken bytes (Err scan_faults.Memory) job e = absurd cc
-tokens_taken bytes (Err (scan_faults.BadByte at line)) job e = absurd cc
+tokens_taken bytes (Err bad) job e = absurd cc
 tokens_taken bytes (Ok tokens) job e = (tokens, refl, e)
 
 text_of_taken : (bytes : List ℕ) (job : Job) → job_of bytes (tokens_of 1 bytes) ≡ Ok job → IsTextOf bytes job
@@ -193,7 +189,7 @@ read_job_spelled stop bytes job rest e =
     let second = bind_ok _ _ (job, rest) e in
     let first = bind_ok _ _ (job, rest) second.2 in
     let taken = rest_taken stop bytes (tokens_of 1 bytes) second.0 second.1 in
-    subst (λ (x : Job × Rest). Spells bytes stop x.0 x.1) (same_ok {F = JobFault} (first.0, second.0) (job, rest) first.2) (record {
+    subst (λ (x : Job × Rest). Spells bytes stop x.0 x.1) (same_ok {F = Fault} (first.0, second.0) (job, rest) first.2) (record {
       second = record { tokens = taken.0; scanned = taken.1; begins = taken.2 };
       first = text_of_taken (take second.0.at bytes) first.0 first.1;
     })

@@ -1,45 +1,25 @@
 -- Lines of a section, read one after another. Cited by the readers of statements and of prints.
-use Rattle.std.proofs.Common.{◌≡◌, ℕ, zero, suc, get_or, ◌-◌, ◌<◌, ◌≤◌, true, false, nat_lt, List, [], ◌∷◌, ◌++◌, length, take, drop, map, slice_get, codes, Option, Some, None, Result, Ok, Err, refl, sym, ap, ◌∙◌, arith}
+use Rattle.std.proofs.Common.{◌≡◌, ℕ, zero, suc, get_or, ◌<◌, ◌≤◌, true, false, nat_lt, List, [], ◌∷◌, ◌++◌, length, slice_get, codes, Option, Some, None, Result, Ok, Err, refl, sym, ap, ◌∙◌, arith}
 use Rattle.std.proofs.lemmas.Bool.{le-ltb, lt-ltb}
-use Rattle.std.proofs.lemmas.List.{take_rest}
 use Rattle.byte_texts.specs.Reading.{◌>>=◌, EndsWith}
-use Rattle.text_scan.specs.declared.token.Token.{Token}
-use Rattle.text_scan.specs.Lines.{Line}
-use Rattle.text_scan.specs.Words.{word}
+use Rattle.byte_texts.proofs.Binding.{EndsWith-along, EndsWith-bind}
+use Rattle.text_scan.specs.Faults.{Fault, ◌on◌}
+use Rattle.text_scan.specs.FaultKinds.{NameTwice, NameUnknown}
+use Rattle.text_scan.specs.Names.{number_of}
+use Rattle.text_scan.specs.Lines.{Line, begins, nth_word}
 use Rattle.operation_spec.specs.declared.operation.Operation.{Operation}
-use Rattle.operation_spec.specs.Equations.{number_of}
-use Rattle.operation_spec.specs.OperationFaults.{nth_word}
-use Rattle.operation_spec.specs.TokenLines.{words_of}
 use Rattle.equation.specs.declared.job.Statement.{Statement}
-use Rattle.job_text.specs.declared.fault.JobFault.{JobFault}
-use Rattle.job_text.specs.declared.fault.JobFault.TheVariants.{NameTwice, NameUnknown}
-use Rattle.job_text.specs.JobFaults.{Matrices, bound_at, bound_of, has_number, is_print_line, names_after, nth_bound, operation_number, print_at, prints_at, statement_at, statement_head_at, statements_at}
-use Rattle.job_text.specs.Sections.{begins}
+use Rattle.job_text.specs.JobFaults.{Matrices, bound_at, bound_of, has_number, is_print_line, nth_bound, operation_number, print_at, prints_at, statement_at, statement_head_at, statements_at}
 use Rattle.job_text.proofs.BoundAgain.{nth_bound-at, nth_bound-none}
-use Rattle.job_text.proofs.FirstSteps.{ends_along, ends_first}
-
--- the words behind the first two
-behind_two : {X Y : Type 0} (f : X → Y) (xs : List X) → drop 2 (map f xs) ≡ map f (drop 2 xs)
-behind_two f [] = refl
-behind_two f (x ∷ []) = refl
-behind_two f (x ∷ y ∷ xs) = refl
-
-names_after-two : (words : List (List ℕ)) → names_after 2 words ≡ drop 2 words
-names_after-two [] = refl
-names_after-two (v ∷ []) = refl
-names_after-two (v ∷ w ∷ words) = refl
-
-pub names_after-tokens : (bytes : List ℕ) (tokens : List Token) → words_of bytes (take (length tokens - 2) (drop 2 tokens)) ≡ names_after 2 (words_of bytes tokens)
-names_after-tokens bytes tokens = ap (words_of bytes) (take_rest tokens 2) ∙ sym (behind_two (word bytes) tokens) ∙ sym (names_after-two (words_of bytes tokens))
 
 -- ---- a print: its tests
 
 module _ (names : List (List ℕ)) (found : List ℕ) (line : Line) (n : ℕ) (is : n ≡ number_of names (nth_word line.words 1)) (form : is_print_line line.words ≡ true) where
-  pub print_at-twice : has_number found n ≡ true → print_at names found line ≡ Err (NameTwice line.number)
+  pub print_at-twice : has_number found n ≡ true → print_at names found line ≡ Err (NameTwice on line.number)
   unfolding print_at
   print_at-twice twice = let test : has_number found (number_of names (nth_word line.words 1)) ≡ true = rw is at twice in rw (form, test) refl
 
-  pub print_at-unknown : has_number found n ≡ false → length names ≤ n → print_at names found line ≡ Err (NameUnknown line.number)
+  pub print_at-unknown : has_number found n ≡ false → length names ≤ n → print_at names found line ≡ Err (NameUnknown on line.number)
   unfolding print_at
   print_at-unknown new past =
       let test : has_number found (number_of names (nth_word line.words 1)) ≡ false = rw is at new in
@@ -56,7 +36,7 @@ module _ (names : List (List ℕ)) (found : List ℕ) (line : Line) (n : ℕ) (i
 -- ---- prints
 
 module _ (names : List (List ℕ)) (found : List ℕ) where
-  pub prints-next : (lines rest : List Line) (line : Line) (n : ℕ) (all : Result (List ℕ × List Line) JobFault) → prints_at names found lines ≡ all → lines ≡ line ∷ rest → begins (codes "print") lines ≡ true
+  pub prints-next : (lines rest : List Line) (line : Line) (n : ℕ) (all : Result (List ℕ × List Line) Fault) → prints_at names found lines ≡ all → lines ≡ line ∷ rest → begins (codes "print") lines ≡ true
       → print_at names found line ≡ Ok n → prints_at names (found ++ n ∷ []) rest ≡ all
   unfolding prints_at
   prints-next [] rest line n all so_far split here read = absurd cc
@@ -66,16 +46,16 @@ module _ (names : List (List ℕ)) (found : List ℕ) where
       let from : print_at names found first ≡ Ok n = rw same read in
       sym (rw (here, from, others) refl) ∙ so_far
 
-  pub prints-fault : (lines rest : List Line) (line : Line) (fault : Option JobFault) (all : Result (List ℕ × List Line) JobFault) → prints_at names found lines ≡ all → lines ≡ line ∷ rest → begins (codes "print") lines ≡ true
+  pub prints-fault : (lines rest : List Line) (line : Line) (fault : Option Fault) (all : Result (List ℕ × List Line) Fault) → prints_at names found lines ≡ all → lines ≡ line ∷ rest → begins (codes "print") lines ≡ true
       → EndsWith fault (print_at names found line) → EndsWith fault all
   unfolding prints_at
   prints-fault [] rest line fault all so_far split here ends = absurd cc
   prints-fault (first ∷ lines) rest line fault all so_far split here ends =
       let same : first ≡ line = cc in
       let steps : prints_at names found (first ∷ lines) ≡ (print_at names found first >>= λ n. prints_at names (found ++ n ∷ []) lines) = rw here refl in
-      ends_along fault all _ (sym so_far ∙ steps) (ends_first fault (print_at names found first) _ (rw same ends))
+      EndsWith-along fault all _ (sym so_far ∙ steps) (EndsWith-bind fault (print_at names found first) _ (rw same ends))
 
-  pub prints-end : (lines : List Line) (all : Result (List ℕ × List Line) JobFault) → prints_at names found lines ≡ all → begins (codes "print") lines ≡ false → all ≡ Ok (found, lines)
+  pub prints-end : (lines : List Line) (all : Result (List ℕ × List Line) Fault) → prints_at names found lines ≡ all → begins (codes "print") lines ≡ false → all ≡ Ok (found, lines)
   unfolding prints_at
   prints-end [] all so_far other = sym so_far
   prints-end (line ∷ lines) all so_far other = sym so_far ∙ rw other refl
@@ -83,7 +63,7 @@ module _ (names : List (List ℕ)) (found : List ℕ) where
 -- ---- statements
 
 module _ (ops : List Operation) (ms : Matrices) (found : List Statement) where
-  pub statements-next : (lines rest : List Line) (line : Line) (s : Statement) (all : Result (List Statement × List Line) JobFault) → statements_at ops ms found lines ≡ all → lines ≡ line ∷ rest → begins (codes "do") lines ≡ true
+  pub statements-next : (lines rest : List Line) (line : Line) (s : Statement) (all : Result (List Statement × List Line) Fault) → statements_at ops ms found lines ≡ all → lines ≡ line ∷ rest → begins (codes "do") lines ≡ true
       → statement_at ops ms found line ≡ Ok s → statements_at ops ms (found ++ s ∷ []) rest ≡ all
   unfolding statements_at
   statements-next [] rest line s all so_far split here read = absurd cc
@@ -93,16 +73,16 @@ module _ (ops : List Operation) (ms : Matrices) (found : List Statement) where
       let from : statement_at ops ms found first ≡ Ok s = rw same read in
       sym (rw (here, from, others) refl) ∙ so_far
 
-  pub statements-fault : (lines rest : List Line) (line : Line) (fault : Option JobFault) (all : Result (List Statement × List Line) JobFault) → statements_at ops ms found lines ≡ all → lines ≡ line ∷ rest → begins (codes "do") lines ≡ true
+  pub statements-fault : (lines rest : List Line) (line : Line) (fault : Option Fault) (all : Result (List Statement × List Line) Fault) → statements_at ops ms found lines ≡ all → lines ≡ line ∷ rest → begins (codes "do") lines ≡ true
       → EndsWith fault (statement_at ops ms found line) → EndsWith fault all
   unfolding statements_at
   statements-fault [] rest line fault all so_far split here ends = absurd cc
   statements-fault (first ∷ lines) rest line fault all so_far split here ends =
       let same : first ≡ line = cc in
       let steps : statements_at ops ms found (first ∷ lines) ≡ (statement_at ops ms found first >>= λ s. statements_at ops ms (found ++ s ∷ []) lines) = rw here refl in
-      ends_along fault all _ (sym so_far ∙ steps) (ends_first fault (statement_at ops ms found first) _ (rw same ends))
+      EndsWith-along fault all _ (sym so_far ∙ steps) (EndsWith-bind fault (statement_at ops ms found first) _ (rw same ends))
 
-  pub statements-end : (lines : List Line) (all : Result (List Statement × List Line) JobFault) → statements_at ops ms found lines ≡ all → begins (codes "do") lines ≡ false → all ≡ Ok (found, lines)
+  pub statements-end : (lines : List Line) (all : Result (List Statement × List Line) Fault) → statements_at ops ms found lines ≡ all → begins (codes "do") lines ≡ false → all ≡ Ok (found, lines)
   unfolding statements_at
   statements-end [] all so_far other = sym so_far
   statements-end (line ∷ lines) all so_far other = sym so_far ∙ rw other refl
@@ -118,7 +98,7 @@ module _ (ops : List Operation) (ms : Matrices) (found : List Statement) (line :
   pub statement_at-bound : (op : Operation) → slice_get ops n ≡ Some op → statement_at ops ms found line ≡ bound_at line op ms.grids n bound
   statement_at-bound op at = at_numbers ∙ nth_bound-at line ops ms.grids n bound op at
 
-  pub statement_at-none : slice_get ops n ≡ None → statement_at ops ms found line ≡ Err (NameUnknown line.number)
+  pub statement_at-none : slice_get ops n ≡ None → statement_at ops ms found line ≡ Err (NameUnknown on line.number)
   statement_at-none past = at_numbers ∙ nth_bound-none line ops ms.grids n bound past
 
 -- ---- the operation with a number, by what a look-up says

@@ -5,11 +5,10 @@ use Rattle.std.proofs.lemmas.Bool.{and_from, lt-leb, ne_eqb}
 use Rattle.std.proofs.lemmas.List.{append-nil, length-map}
 use Rattle.residue_sums.specs.Grids.{Grid, IsFull, AreResidues}
 use Rattle.text_scan.specs.LineOrder.{AreLines}
-use Rattle.text_scan.specs.Lines.{Line}
+use Rattle.text_scan.specs.Lines.{Line, begins_with}
 use Rattle.text_scan.specs.Words.{is_name}
 use Rattle.text_scan.proofs.LineOrders.{AreLines-behind, AreLines-inner}
 use Rattle.text_scan.proofs.NumberTexts.{decimal_number}
-use Rattle.operation_spec.specs.OperationFaults.{begins_with}
 use Rattle.operation_spec.proofs.ImageParts.{map_nil}
 use Rattle.operation_spec.proofs.NamesApart.{is_among-none}
 use Rattle.matrix_text.specs.MatrixFaults.{is_heading}

@@ -6,20 +6,20 @@ use Rattle.std.proofs.lemmas.List.Elements.{All-nil, All-push}
 use Rattle.std.proofs.lemmas.List.Quantifiers.{all_pairs_push}
 use Rattle.residue_sums.specs.Grids.{Grid, IsFull, AreResidues}
 use Rattle.byte_texts.proofs.Binding.{bind_ok}
+use Rattle.text_scan.specs.Names.{is_among}
 use Rattle.text_scan.specs.LineOrder.{AreLines}
-use Rattle.text_scan.specs.Lines.{Line}
+use Rattle.text_scan.specs.Lines.{Line, begins_with, nth_word}
 use Rattle.text_scan.specs.Words.{is_name, is_word}
 use Rattle.text_scan.proofs.FaultTests.{passed_by}
 use Rattle.text_scan.proofs.LineOrders.{AreLines-parts, is_line-words}
-use Rattle.operation_spec.specs.OperationFaults.{begins_with, is_among, nth_word}
 use Rattle.operation_spec.proofs.FoundNames.{none_is}
-use Rattle.matrix_text.specs.MatrixFaults.{NamedGrid, matrix_at}
+use Rattle.matrix_text.specs.MatrixFaults.{NamedGrid}
 use Rattle.matrix_text.specs.MatrixLines.{SpellsMatrix, matrix_lines, size_limit}
 use Rattle.matrix_text.proofs.MatrixSpelling.{matrix_takes}
 use Rattle.equation.specs.Jobs.{entry_count}
-use Rattle.job_text.specs.JobFaults.{Matrices, with_matrix, fault_of_matrix, matrix_limit, entry_limit, matrix_head_at, next_matrix_at, matrices_at}
+use Rattle.job_text.specs.JobFaults.{Matrices, with_matrix, matrix_limit, entry_limit, matrix_head_at, next_matrix_at, matrices_at}
 use Rattle.job_text.specs.JobLines.{matrix_blocks}
-use Rattle.job_text.proofs.SectionLines.{or_else_ok, first_words, lines_behind, SectionTaken, no_part, part_before, at_word}
+use Rattle.job_text.proofs.SectionLines.{first_words, lines_behind, SectionTaken, no_part, part_before, at_word}
 
 -- what holds of matrices that were read
 pub record AreMatrices (m : ℕ) (found : Matrices) : Type 0 where
@@ -81,7 +81,7 @@ block_taken end m found line lines new rest small are e =
     let room = entry_limit - entry_count found.grids in
     let head = bind_ok _ _ (new, rest) e in
     let tests = head_taken end found line head.0 head.1 in
-    let spelled = matrix_takes end m room (line ∷ lines) new.name new.grid rest (omega arith) are (or_else_ok fault_of_matrix (matrix_at end m room (line ∷ lines)) (new, rest) head.2) in
+    let spelled = matrix_takes end m room (line ∷ lines) new.name new.grid rest (omega arith) are head.2 in
     let words = first_words line lines spelled.text.0 rest _ _ spelled.text.1 spelled.text.2 in
     record {
       spelled = spelled;

@@ -4,8 +4,7 @@ use Rattle.std.proofs.Common.{◌≡◌, ◌≢◌, ℕ, ◌<◌, Bool, true, Li
 use Rattle.std.specs.List.{list_all}
 use Rattle.std.proofs.lemmas.List.Elements.{All-head, All-tail, All-map}
 use Rattle.std.proofs.lemmas.List.Sums.{list_all-from_AllPass}
-use Rattle.operation_spec.specs.Equations.{number_of}
-use Rattle.operation_spec.specs.OperationFaults.{is_among}
+use Rattle.text_scan.specs.Names.{is_among, number_of}
 use Rattle.operation_spec.specs.OperationLines.{nth_name}
 use Rattle.operation_spec.proofs.NamesApart.{number_of-nth, is_among-nth}
 

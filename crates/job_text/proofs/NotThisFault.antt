@@ -1,11 +1,6 @@
--- Reading that never ends with one fault, step by step and test by test. Cited by what shows that no fault of a text is want of
--- memory, or a bad byte.
-use Rattle.std.proofs.Common.{◌≡◌, ◌≢◌, ℕ, List, [], ◌∷◌, Bool, true, false, Result, Ok, Err, if◌then◌else◌, refl}
+-- Reading that never ends with one fault, step by step and test by test. Cited by what shows that no fault is a bad byte.
+use Rattle.std.proofs.Common.{◌≢◌, Bool, true, false, Result, Ok, Err, if◌then◌else◌}
 use Rattle.byte_texts.specs.Reading.{◌>>=◌}
-use Rattle.text_scan.specs.Lines.{Line}
-use Rattle.job_text.specs.declared.fault.JobFault.{JobFault}
-use Rattle.job_text.specs.declared.fault.JobFault.TheVariants.{TrailingText}
-use Rattle.job_text.specs.JobFaults.{nothing_at, or_else}
 
 module _ {F : Type 0} (bad : F) where
   -- a step without it, and others
@@ -21,19 +16,3 @@ module _ {F : Type 0} (bad : F) where
   -- a value
   pub value_none : {A : Type 0} (x : A) → ◌≢◌ {A = Result A F} (Ok x) (Err bad)
   value_none x e = cc
-
-  -- one of two ways to read
-  pub choice_none : {A : Type 0} (test : Bool) (first other : Result A F) → first ≢ Err bad → other ≢ Err bad → (if test then first else other) ≢ Err bad
-  choice_none true first other none none_else e = none e
-  choice_none false first other none none_else e = none_else e
-
-  -- faults of another kind, of which none is told as it
-  pub or_else_none : {A E : Type 0} (fault_of : E → F) (r : Result A E) → ((e : E) → r ≡ Err e → fault_of e ≢ bad) → or_else fault_of r ≢ Err bad
-  or_else_none fault_of (Ok x) told e = cc
-  or_else_none fault_of (Err d) told e = told d refl cc
-
--- a line that stands behind the last block is told, and nothing else
-pub nothing_none : (bad : JobFault) → ((line : ℕ) → TrailingText line ≢ bad) → (lines : List Line) → nothing_at lines ≢ Err bad
-unfolding nothing_at
-nothing_none bad told [] e = cc
-nothing_none bad told (line ∷ lines) e = told line.number cc

@@ -5,11 +5,10 @@ use Rattle.std.proofs.lemmas.Bool.{lt-leb, ne_eqb}
 use Rattle.std.proofs.lemmas.List.{append-nil, length-map}
 use Rattle.std.proofs.lemmas.List.Elements.{All-map}
 use Rattle.text_scan.specs.LineOrder.{AreLines}
-use Rattle.text_scan.specs.Lines.{Line}
+use Rattle.text_scan.specs.Lines.{Line, begins_with}
 use Rattle.text_scan.specs.Words.{is_name}
 use Rattle.text_scan.proofs.LineOrders.{AreLines-behind, AreLines-inner}
 use Rattle.operation_spec.specs.declared.operation.Operation.{Operation}
-use Rattle.operation_spec.specs.OperationFaults.{begins_with}
 use Rattle.operation_spec.specs.OperationLines.{operation_lines}
 use Rattle.operation_spec.specs.ValidOperations.{HasNames, IsValid}
 use Rattle.operation_spec.proofs.ImageParts.{map_nil}

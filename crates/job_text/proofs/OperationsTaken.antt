@@ -5,18 +5,18 @@ use Rattle.std.proofs.lemmas.List.Concat.{flat_map-append}
 use Rattle.std.proofs.lemmas.List.Elements.{All-nil, All-push}
 use Rattle.std.proofs.lemmas.List.Quantifiers.{all_pairs_push}
 use Rattle.byte_texts.proofs.Binding.{bind_ok}
+use Rattle.text_scan.specs.Names.{is_among}
 use Rattle.text_scan.specs.LineOrder.{AreLines}
-use Rattle.text_scan.specs.Lines.{Line}
+use Rattle.text_scan.specs.Lines.{Line, begins_with, nth_word}
 use Rattle.text_scan.proofs.FaultTests.{passed_by}
 use Rattle.operation_spec.specs.declared.operation.Operation.{Operation}
-use Rattle.operation_spec.specs.OperationFaults.{begins_with, is_among, nth_word, operation_at}
 use Rattle.operation_spec.specs.OperationLines.{operation_lines}
 use Rattle.operation_spec.specs.ValidOperations.{HasNames, IsValid, SpellsOperation}
 use Rattle.operation_spec.proofs.FoundNames.{none_is}
 use Rattle.operation_spec.proofs.OperationTaken.{operation_taken}
-use Rattle.job_text.specs.JobFaults.{fault_of_spec, operation_limit, operation_head_at, next_operation_at, operations_at}
+use Rattle.job_text.specs.JobFaults.{operation_limit, operation_head_at, next_operation_at, operations_at}
 use Rattle.job_text.proofs.ListFacts.{All-from_map}
-use Rattle.job_text.proofs.SectionLines.{or_else_ok, first_words, lines_behind, SectionTaken, no_part, part_before, at_word}
+use Rattle.job_text.proofs.SectionLines.{first_words, lines_behind, SectionTaken, no_part, part_before, at_word}
 
 -- what holds of operations that were read
 pub record AreOperations (ops : List Operation) : Type 0 where
@@ -52,7 +52,7 @@ unfolding next_operation_at
 block_taken end found line lines op rest are e =
     let head = bind_ok _ _ (op, rest) e in
     let tests = head_taken end found line head.0 head.1 in
-    let spelled = operation_taken end (line ∷ lines) op rest are (or_else_ok fault_of_spec (operation_at end (line ∷ lines)) (op, rest) head.2) in
+    let spelled = operation_taken end (line ∷ lines) op rest are head.2 in
     let words = first_words line lines spelled.text.0 rest _ _ spelled.text.1 spelled.text.2 in
     let new = sym (ap (λ (ws : List (List ℕ)). is_among (map (λ o. o.name) found) (nth_word ws 1)) words) ∙ tests.1 in
     record {

@@ -2,10 +2,9 @@
 use Rattle.std.proofs.Common.{◌≡◌, ◌≢◌, ℕ, ◌<◌, true, not, List, [], ◌∷◌, ◌++◌, length, map, codes, All, Ok, refl, sym, ap, ◌∙◌, arith, append_assoc}
 use Rattle.std.proofs.lemmas.Bool.{not_from_true}
 use Rattle.std.proofs.lemmas.List.{append-nil}
-use Rattle.text_scan.specs.Lines.{Line}
+use Rattle.text_scan.specs.Names.{is_among, number_of}
+use Rattle.text_scan.specs.Lines.{Line, begins_with, nth_word}
 use Rattle.text_scan.proofs.FaultTests.{passes_by}
-use Rattle.operation_spec.specs.Equations.{number_of}
-use Rattle.operation_spec.specs.OperationFaults.{begins_with, is_among, nth_word}
 use Rattle.operation_spec.proofs.NamesApart.{number_of-nth, is_among-nth}
 use Rattle.equation.specs.declared.job.Job.{Job}
 use Rattle.equation.specs.Jobs.{IsJob}

@@ -5,14 +5,13 @@ use Rattle.std.proofs.lemmas.List.{map_push}
 use Rattle.std.proofs.lemmas.List.Elements.{All-nil, All-push}
 use Rattle.std.proofs.lemmas.List.Quantifiers.{all_pairs_push}
 use Rattle.byte_texts.proofs.Binding.{same_ok}
-use Rattle.text_scan.specs.Lines.{Line}
+use Rattle.text_scan.specs.Faults.{Fault}
+use Rattle.text_scan.specs.Names.{number_of}
+use Rattle.text_scan.specs.Lines.{Line, begins_with, nth_word}
 use Rattle.text_scan.specs.Words.{is_name}
 use Rattle.text_scan.proofs.FaultTests.{passed_by}
-use Rattle.operation_spec.specs.Equations.{number_of}
-use Rattle.operation_spec.specs.OperationFaults.{begins_with, nth_word}
 use Rattle.operation_spec.proofs.FoundNames.{text_is, nth_name-number_of, among_below}
 use Rattle.equation.specs.declared.job.Job.{Job}
-use Rattle.job_text.specs.declared.fault.JobFault.{JobFault}
 use Rattle.job_text.specs.JobFaults.{is_print_line, print_at, prints_at}
 use Rattle.job_text.specs.JobLines.{print_line}
 use Rattle.job_text.proofs.ListFacts.{not_among}
@@ -46,7 +45,7 @@ module _ (job : Job) where
       let twice = passed_by _ _ _ n form.1 in
       let unknown = passed_by _ _ _ n twice.1 in
       let below = among_below job.names name (not-false _ unknown.0) in
-      subst (PrintTaken found line.words) (same_ok {F = JobFault} (number_of job.names name) n unknown.1) (record {
+      subst (PrintTaken found line.words) (same_ok {F = Fault} (number_of job.names name) n unknown.1) (record {
         spelled = line_words line.words (not-false _ form.0) ∙ ap (λ (w : List ℕ). codes "print" ∷ w ∷ []) (sym (nth_name-number_of job.names name below));
         below = below;
         new = not_among found (number_of job.names name) twice.0;

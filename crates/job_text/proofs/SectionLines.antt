@@ -1,18 +1,12 @@
 -- Lines of a job that were read section by section, and each section part by part. Cited by the law that what is read is spelled so.
-use Rattle.std.proofs.Common.{◌≡◌, ℕ, Bool, true, false, if◌then◌else◌, List, [], ◌∷◌, ◌++◌, map, Result, Ok, Err, refl, sym, ap, ◌∙◌, subst, append_assoc, append-nil}
+use Rattle.std.proofs.Common.{◌≡◌, ℕ, Bool, true, false, if◌then◌else◌, List, [], ◌∷◌, ◌++◌, map, Result, Ok, refl, sym, ap, ◌∙◌, subst, append_assoc, append-nil}
 use Rattle.std.proofs.lemmas.List.{map-append}
 use Rattle.byte_texts.specs.Reading.{◌>>=◌}
 use Rattle.byte_texts.proofs.Binding.{bind_ok, same_ok}
+use Rattle.text_scan.specs.Faults.{Fault}
 use Rattle.text_scan.specs.LineOrder.{AreLines}
 use Rattle.text_scan.specs.Lines.{Line}
 use Rattle.text_scan.proofs.LineOrders.{AreLines-behind}
-use Rattle.job_text.specs.declared.fault.JobFault.{JobFault}
-use Rattle.job_text.specs.JobFaults.{or_else}
-
--- a step that was not refused, under whatever name its faults have
-pub or_else_ok : {A E F : Type 0} (fault : E → F) (r : Result A E) (x : A) → or_else fault r ≡ Ok x → r ≡ Ok x
-or_else_ok {A} {E} {F} fault (Ok y) x e = ap (λ (z : A). Ok z) (same_ok {F = F} y x e)
-or_else_ok fault (Err d) x e = absurd cc
 
 -- the first of lines whose words are known
 pub first_words : (line : Line) (lines own rest : List Line) (words : List (List ℕ)) (others : List (List (List ℕ))) → line ∷ lines ≡ own ++ rest → map (λ l. l.words) own ≡ words ∷ others
@@ -46,8 +40,8 @@ pub record SectionTaken {X : Type 0} (Are : X → Type 0) (text : X → List (Li
 
 -- no part is behind those found
 pub no_part : {X : Type 0} (Are : X → Type 0) (text : X → List (List (List ℕ))) (found : X) (lines : List Line) (read : X × List Line) → Are found
-    → ◌≡◌ {A = Result (X × List Line) JobFault} (Ok (found, lines)) (Ok read) → SectionTaken Are text found lines read
-no_part Are text found lines read are e = subst (SectionTaken Are text found lines) (same_ok {F = JobFault} (found, lines) read e)
+    → ◌≡◌ {A = Result (X × List Line) Fault} (Ok (found, lines)) (Ok read) → SectionTaken Are text found lines read
+no_part Are text found lines read are e = subst (SectionTaken Are text found lines) (same_ok {F = Fault} (found, lines) read e)
     (record { own = []; lines_are = refl; text_is = sym (append-nil (text found)); are = are })
 
 -- a part, where those behind it were read
@@ -64,7 +58,7 @@ part_before Are text found more lines own rest read parts one others = record {
 
 -- a line with the section's first word, or the first line behind the section
 pub at_word : {X Y : Type 0} (Are : X → Type 0) (text : X → List (List (List ℕ))) (found : X) (lines : List Line) (read : X × List Line)
-    (step : Result Y JobFault) (behind : Y → Result (X × List Line) JobFault) → Are found
+    (step : Result Y Fault) (behind : Y → Result (X × List Line) Fault) → Are found
     → ((y : Y) → step ≡ Ok y → behind y ≡ Ok read → SectionTaken Are text found lines read)
     → (b : Bool) → (if b then (step >>= behind) else Ok (found, lines)) ≡ Ok read → SectionTaken Are text found lines read
 at_word Are text found lines read step behind are taken true e = let first = bind_ok step behind read e in taken first.0 first.1 first.2

@@ -1,8 +1,7 @@
 -- Sections of a job: where one ends, the lines of its first block, and the lines of each. Cited by what shows that the lines of a job are
 -- read as the job.
 use Rattle.std.proofs.Common.{◌≡◌, ℕ, ◌<◌, false, Bool, List, [], ◌∷◌, ◌++◌, length, map, sym, ap, ◌∙◌, arith, append_assoc}
-use Rattle.text_scan.specs.Lines.{Line}
-use Rattle.operation_spec.specs.OperationFaults.{begins_with}
+use Rattle.text_scan.specs.Lines.{Line, begins_with}
 use Rattle.operation_spec.proofs.ImageParts.{map_cons, map_append}
 
 -- the words of lines, without their numbers

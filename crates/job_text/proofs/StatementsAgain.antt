@@ -1,23 +1,22 @@
 -- The lines of statements are read as these: no test of such a line holds. Cited by the law that a job's lines are read
 -- as the job.
-use Rattle.std.proofs.Common.{◌≡◌, ◌≢◌, ℕ, ◌<◌, true, false, not, List, [], ◌∷◌, ◌++◌, length, map, codes, All, IsTrue, Ok, refl, sym, ap, ◌∙◌, arith, append_assoc, length-append}
+use Rattle.std.proofs.Common.{◌≡◌, ◌≢◌, ℕ, ◌<◌, true, false, not, List, [], ◌∷◌, ◌++◌, length, map, codes, All, IsTrue, Ok, refl, sym, ap, ◌∙◌, arith, append_assoc, length-append, drop}
 use Rattle.std.specs.List.{list_all}
 use Rattle.std.proofs.lemmas.Bool.{and_from, lt-leb, not_from_true, or_from}
 use Rattle.std.proofs.lemmas.List.{append-nil, length-map}
 use Rattle.std.proofs.lemmas.List.Elements.{All-cons, All-map}
 use Rattle.std.proofs.lemmas.Option.{slice_get_within}
-use Rattle.text_scan.specs.Lines.{Line}
+use Rattle.text_scan.specs.Names.{is_among, number_of}
+use Rattle.text_scan.specs.Lines.{Line, begins_with, nth_word}
 use Rattle.text_scan.specs.Words.{is_name}
 use Rattle.text_scan.proofs.FaultTests.{passes_by}
 use Rattle.operation_spec.specs.declared.operation.Operation.{Operation}
-use Rattle.operation_spec.specs.Equations.{number_of}
-use Rattle.operation_spec.specs.OperationFaults.{begins_with, is_among, nth_word}
 use Rattle.operation_spec.specs.OperationLines.{nth_name}
 use Rattle.operation_spec.proofs.NamesApart.{number_of-nth, is_among-nth}
 use Rattle.equation.specs.declared.job.Job.{Job}
 use Rattle.equation.specs.declared.job.Statement.{Statement}
 use Rattle.equation.specs.Jobs.{IsJob, IsStatement}
-use Rattle.job_text.specs.JobFaults.{Matrices, statement_limit, bound_of, names_after, operation_number, is_statement_line, statement_head_at, statement_at, statements_at}
+use Rattle.job_text.specs.JobFaults.{Matrices, statement_limit, bound_of, operation_number, is_statement_line, statement_head_at, statement_at, statements_at}
 use Rattle.job_text.specs.JobLines.{operation_names, statement_line}
 use Rattle.job_text.specs.SpelledJobs.{IsWritable}
 use Rattle.job_text.proofs.BoundAgain.{bound_at-fits, nth_bound-at}
@@ -64,7 +63,7 @@ module _ (job : Job) (valid : IsJob job) (writable : IsWritable job) where
       passes_by _ (ap (λ ws. not (is_statement_line ws)) words ∙ not_from_true _ (and_from _ _ operation.named (names_pass job.names is_name ks writable.matrices_named bound)))
       (passes_by _ (lt-leb statement_limit (length found) few)
       (passes_by _ (or_from _ _ (not_from_true _ (ap (λ ws. is_among (operation_names job) (nth_word ws 1)) words ∙ operation.among))
-      (not_from_true _ (ap (λ ws. list_all (is_among job.names) (names_after 2 ws)) words ∙ are_among job.names ks writable.matrices_once bound))) refl))
+      (not_from_true _ (ap (λ ws. list_all (is_among job.names) (drop 2 ws)) words ∙ are_among job.names ks writable.matrices_once bound))) refl))
 
   -- the line is read as the statement
   statement_at-line : (found : List Statement) (line : Line) (s : Statement) → line.words ≡ statement_line job s → IsStatement job s → length found < statement_limit

@@ -1,21 +1,20 @@
 -- The statements of a job that were read. Cited by the law that what is read is spelled so.
-use Rattle.std.proofs.Common.{◌≡◌, ℕ, ◌<◌, ◌≤◌, true, not, ◌&&◌, List, [], ◌∷◌, ◌++◌, length, map, codes, Ok, All, bytes_eq, refl, sym, ap, ◌∙◌, subst, arith, length-append, leb-false}
+use Rattle.std.proofs.Common.{◌≡◌, ℕ, ◌<◌, ◌≤◌, true, not, ◌&&◌, List, [], ◌∷◌, ◌++◌, length, map, codes, Ok, All, bytes_eq, refl, sym, ap, ◌∙◌, subst, arith, length-append, leb-false, drop}
 use Rattle.std.specs.List.{list_all}
 use Rattle.std.proofs.lemmas.Bool.{and_parts, or_parts, not-false}
 use Rattle.std.proofs.lemmas.List.{map_push}
 use Rattle.std.proofs.lemmas.List.Elements.{All-nil, All-cons, All-push}
 use Rattle.byte_texts.proofs.Binding.{bind_ok}
-use Rattle.text_scan.specs.Lines.{Line}
+use Rattle.text_scan.specs.Names.{is_among, number_of}
+use Rattle.text_scan.specs.Lines.{Line, begins_with, nth_word}
 use Rattle.text_scan.specs.Words.{is_name}
 use Rattle.text_scan.proofs.FaultTests.{passed_by}
-use Rattle.operation_spec.specs.Equations.{number_of}
-use Rattle.operation_spec.specs.OperationFaults.{begins_with, is_among, nth_word}
 use Rattle.operation_spec.specs.OperationLines.{nth_name}
 use Rattle.operation_spec.proofs.FoundNames.{text_is, nth_name-number_of, among_below}
 use Rattle.equation.specs.declared.job.Job.{Job}
 use Rattle.equation.specs.declared.job.Statement.{Statement}
 use Rattle.equation.specs.Jobs.{IsStatement}
-use Rattle.job_text.specs.JobFaults.{Matrices, statement_limit, is_statement_line, names_after, bound_of, operation_number, statement_head_at, statement_at, statements_at}
+use Rattle.job_text.specs.JobFaults.{Matrices, statement_limit, is_statement_line, bound_of, operation_number, statement_head_at, statement_at, statements_at}
 use Rattle.job_text.specs.JobLines.{operation_names, statement_line}
 use Rattle.job_text.proofs.BindingTaken.{BoundTaken, nth_bound_taken}
 use Rattle.job_text.proofs.SectionLines.{SectionTaken, no_part, part_before, at_word}
@@ -36,7 +35,7 @@ numbers_below names (w ∷ words) known =
     All-cons (λ k. k < length names) (number_of names w) (map (number_of names) words) (among_below names w both.0) (numbers_below names words both.1)
 
 -- the words of a statement's line
-line_words : (words : List (List ℕ)) → is_statement_line words ≡ true → words ≡ codes "do" ∷ nth_word words 1 ∷ names_after 2 words
+line_words : (words : List (List ℕ)) → is_statement_line words ≡ true → words ≡ codes "do" ∷ nth_word words 1 ∷ drop 2 words
 line_words [] is = absurd cc
 line_words (first ∷ []) is = absurd cc
 line_words (first ∷ operation ∷ names) is =
@@ -62,7 +61,7 @@ module _ (job : Job) (each : length job.names ≡ length job.matrices) where
     form : is_statement_line words ≡ true
     few : length found < statement_limit
     operation : is_among (operation_names job) (nth_word words 1) ≡ true
-    names : list_all (is_among job.names) (names_after 2 words) ≡ true
+    names : list_all (is_among job.names) (drop 2 words) ≡ true
 
   head_taken : (found : List Statement) (line : Line) (done : Unit {0}) → statement_head_at job.operations (matrices_of job) found line ≡ Ok done → HeadTaken found line.words
   unfolding statement_head_at
@@ -70,7 +69,7 @@ module _ (job : Job) (each : length job.names ≡ length job.matrices) where
       let form = passed_by _ _ _ done e in
       let few = passed_by _ _ _ done form.1 in
       let known = passed_by _ _ _ done few.1 in
-      let both = or_parts (not (is_among (operation_names job) (nth_word line.words 1))) (not (list_all (is_among job.names) (names_after 2 line.words))) known.0 in
+      let both = or_parts (not (is_among (operation_names job) (nth_word line.words 1))) (not (list_all (is_among job.names) (drop 2 line.words))) known.0 in
       record { form = not-false _ form.0; few = leb-false statement_limit (length found) few.0; operation = not-false _ both.0; names = not-false _ both.1 }
 
   -- the words of its line
@@ -78,7 +77,7 @@ module _ (job : Job) (each : length job.names ≡ length job.matrices) where
       → BoundTaken job.operations job.matrices (operation_number job.operations words) (bound_of job.names words) s → words ≡ statement_line job s
   spelled found words s head bound =
       let operation = ap (nth_name (operation_names job)) (sym bound.number) ∙ nth_name-number_of (operation_names job) (nth_word words 1) (among_below (operation_names job) (nth_word words 1) head.operation) in
-      let names = ap (map (nth_name job.names)) (sym bound.numbers) ∙ names_again job.names (names_after 2 words) head.names in
+      let names = ap (map (nth_name job.names)) (sym bound.numbers) ∙ names_again job.names (drop 2 words) head.names in
       line_words words head.form ∙ sym (λ i. codes "do" ∷ operation i ∷ names i)
 
   statement_taken : (found : List Statement) (line : Line) (s : Statement) → statement_at job.operations (matrices_of job) found line ≡ Ok s → StatementTaken found line.words s
@@ -86,7 +85,7 @@ module _ (job : Job) (each : length job.names ≡ length job.matrices) where
   statement_taken found line s e =
       let step = bind_ok _ _ s e in
       let head = head_taken found line step.0 step.1 in
-      let below = subst (λ n. All (λ k. k < n) (bound_of job.names line.words)) each (numbers_below job.names (names_after 2 line.words) head.names) in
+      let below = subst (λ n. All (λ k. k < n) (bound_of job.names line.words)) each (numbers_below job.names (drop 2 line.words) head.names) in
       let bound = nth_bound_taken line job.operations job.matrices (operation_number job.operations line.words) (bound_of job.names line.words) s below step.2 in
       record { spelled = spelled found line.words s head bound; few = head.few; valid = record { operation = bound.operation; found = bound.found; fits = bound.fits } }
 

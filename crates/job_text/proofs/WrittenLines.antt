@@ -6,7 +6,7 @@ use Rattle.std.proofs.lemmas.Grind.{flat_map-append}
 use Rattle.std.proofs.lemmas.List.{at_drop_all, at_drop_more}
 use Rattle.std.proofs.lemmas.List.Elements.{All-head, All-tail}
 use Rattle.residue_sums.specs.Grids.{Grid}
-use Rattle.byte_texts.specs.MatrixTexts.{matrix_text}
+use Rattle.matrix_text.specs.MatrixTexts.{matrix_text}
 use Rattle.text_scan.specs.declared.token.TokenKind.{TokenKind}
 use Rattle.text_scan.specs.declared.token.TokenKind.TheVariants.{Number, Sign}
 use Rattle.text_scan.specs.NormalTexts.{line_text, lines_text}

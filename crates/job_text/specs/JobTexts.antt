@@ -2,7 +2,7 @@
 use Rattle.std.specs.Prelude.{ℕ, List, [], ◌∷◌, ◌++◌, codes, decimal, map}
 use Rattle.std.specs.List.{flat_map}
 use Rattle.residue_sums.specs.Grids.{Grid}
-use Rattle.byte_texts.specs.MatrixTexts.{matrix_text}
+use Rattle.matrix_text.specs.MatrixTexts.{matrix_text}
 use Rattle.text_scan.specs.NormalTexts.{lines_text}
 use Rattle.operation_spec.specs.OperationLines.{operation_lines}
 use Rattle.equation.specs.declared.job.Job.{Job}

@@ -1,13 +1,11 @@
 -- The second part of an input, from the line that begins it.
-use Rattle.std.specs.Prelude.{ℕ, ◌-◌, List, [], ◌∷◌, length, take, Result, Ok, Bool, true, if◌then◌else◌}
+use Rattle.std.specs.Prelude.{ℕ, ◌-◌, List, [], ◌∷◌, length, take, Result, Ok, if◌then◌else◌}
 use Rattle.byte_texts.specs.Reading.{◌>>=◌}
 use Rattle.text_scan.specs.declared.Rest.{Rest}
-use Rattle.text_scan.specs.Lines.{Line, end_line_of, lines_of}
-use Rattle.text_scan.specs.Tokens.{tokens_of}
-use Rattle.operation_spec.specs.OperationFaults.{begins_with}
+use Rattle.text_scan.specs.Lines.{Line, begins_with, end_line_of, lines_of}
+use Rattle.text_scan.specs.Faults.{Fault}
+use Rattle.text_scan.specs.Tokens.{scanned, tokens_of}
 use Rattle.equation.specs.declared.job.Job.{Job}
-use Rattle.job_text.specs.declared.fault.JobFault.{JobFault}
-use Rattle.job_text.specs.JobFaults.{or_else, fault_of_scan}
 use Rattle.job_text.specs.SpelledJobs.{job_of, place_behind}
 
 -- the lines from the first on that begins with the word
@@ -20,23 +18,14 @@ abbrev pub rest_at : List ℕ → List Line → Rest
 rest_at bytes [] = record { at = length bytes; line = end_line_of 1 bytes }
 rest_at bytes (line ∷ lines) = record { at = place_behind (line.number - 1) bytes; line = line.number }
 
--- this line is the one, or there is none
-abbrev pub stops : List ℕ → List Line → Bool
-stops w [] = true
-stops w (line ∷ lines) = begins_with w line.words
-
-abbrev pub behind_first : List Line → List Line
-behind_first [] = []
-behind_first (line ∷ lines) = lines
-
 -- the job up to there
-abbrev pub front_at : List ℕ → Rest → Result (Job × Rest) JobFault
+abbrev pub front_at : List ℕ → Rest → Result (Job × Rest) Fault
 front_at bytes rest = job_of (take rest.at bytes) (tokens_of 1 (take rest.at bytes)) >>= λ job. Ok (job, rest)
 
 -- where the first line that begins with the word begins, or the first bad byte
-abbrev pub place_of_word : List ℕ → List ℕ → Result Rest JobFault
-place_of_word w bytes = or_else fault_of_scan (tokens_of 1 bytes) >>= λ tokens. Ok (rest_at bytes (from_word w (lines_of bytes tokens)))
+abbrev pub place_of_word : List ℕ → List ℕ → Result Rest Fault
+place_of_word w bytes = scanned (tokens_of 1 bytes) >>= λ tokens. Ok (rest_at bytes (from_word w (lines_of bytes tokens)))
 
 -- the job up to the line that begins with the word
-abbrev pub front_in : List ℕ → List ℕ → Result (Job × Rest) JobFault
+abbrev pub front_in : List ℕ → List ℕ → Result (Job × Rest) Fault
 front_in w bytes = place_of_word w bytes >>= λ rest. front_at bytes rest

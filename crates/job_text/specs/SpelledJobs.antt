@@ -2,20 +2,18 @@
 use Rattle.std.specs.Prelude.{◌≡◌, ◌≢◌, ℕ, zero, suc, ◌+◌, ◌-◌, ◌≤◌, List, [], ◌∷◌, length, take, codes, map, Result, Ok, Bool, false, ◌==◌, if◌then◌else◌, All, AllPairs, IsTrue}
 use Rattle.text_scan.specs.declared.token.Token.{Token}
 use Rattle.text_scan.specs.declared.Rest.{Rest}
-use Rattle.text_scan.specs.declared.token.ScanFault.{ScanFault}
 use Rattle.byte_texts.specs.Reading.{◌>>=◌}
-use Rattle.text_scan.specs.Lines.{Line, end_line_of, lines_of}
-use Rattle.text_scan.specs.Tokens.{tokens_of}
+use Rattle.text_scan.specs.Faults.{Fault}
+use Rattle.text_scan.specs.Lines.{Line, begins_with, end_line_of, lines_of}
+use Rattle.text_scan.specs.Tokens.{BadByte, scanned, tokens_of}
 use Rattle.text_scan.specs.Words.{is_name, is_word}
-use Rattle.operation_spec.specs.OperationFaults.{begins_with}
 use Rattle.operation_spec.specs.ValidOperations.{HasNames}
 use Rattle.matrix_text.specs.MatrixLines.{size_limit}
 use Rattle.equation.specs.declared.job.Job.{Job}
 use Rattle.equation.specs.Jobs.{IsJob, entry_count}
 use Rattle.job_text.specs.declared.stop.Stop.{Stop}
 use Rattle.job_text.specs.declared.stop.Stop.TheVariants.{Nothing, Worksheet, After}
-use Rattle.job_text.specs.declared.fault.JobFault.{JobFault}
-use Rattle.job_text.specs.JobFaults.{fault_of_scan, job_at, or_else, operation_limit, matrix_limit, statement_limit, entry_limit}
+use Rattle.job_text.specs.JobFaults.{job_at, operation_limit, matrix_limit, statement_limit, entry_limit}
 use Rattle.job_text.specs.JobLines.{job_lines}
 
 -- a job within the limits of a text, whose names can stand in it
@@ -80,14 +78,14 @@ pub record Spells (bytes : List ℕ) (stop : Stop) (job : Job) (rest : Rest) : T
 -- ---- reading a text
 
 -- the job that the tokens of bytes say, or their first fault
-abbrev pub job_of : List ℕ → Result (List Token) ScanFault → Result Job JobFault
-job_of bytes read = or_else fault_of_scan read >>= λ tokens. job_at (end_line_of 1 bytes) (lines_of bytes tokens)
+abbrev pub job_of : List ℕ → Result (List Token) BadByte → Result Job Fault
+job_of bytes read = scanned read >>= λ tokens. job_at (end_line_of 1 bytes) (lines_of bytes tokens)
 
-abbrev pub rest_in : Stop → List ℕ → Result (List Token) ScanFault → Result Rest JobFault
-rest_in stop bytes read = or_else fault_of_scan read >>= λ tokens. Ok (rest_of stop bytes (lines_of bytes tokens))
+abbrev pub rest_in : Stop → List ℕ → Result (List Token) BadByte → Result Rest Fault
+rest_in stop bytes read = scanned read >>= λ tokens. Ok (rest_of stop bytes (lines_of bytes tokens))
 
 -- a job and where the second part of its input begins
-unfoldable pub job_in : Stop → List ℕ → Result (Job × Rest) JobFault
+unfoldable pub job_in : Stop → List ℕ → Result (Job × Rest) Fault
 job_in stop bytes = do
   rest ← rest_in stop bytes (tokens_of 1 bytes)
   job ← job_of (take rest.at bytes) (tokens_of 1 (take rest.at bytes))

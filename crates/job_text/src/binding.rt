@@ -4,8 +4,7 @@ ghost use Rattle.std.specs.Prelude.{◌≡◌, ◌<◌, ◌∷◌, [], ◌++◌,
 ghost use Rattle.std.specs.List.{list_all};
 ghost use Rattle.byte_texts.specs.Reading.{Gives};
 ghost use Rattle.equation.specs.Jobs.{nth_grid};
-ghost use Rattle.job_text.specs.JobFaults.{bound_at, has_two_lengths, lengths_of};
-ghost use Rattle.job_text.specs.Sections.{text_fault};
+ghost use Rattle.job_text.specs.JobFaults.{bound_at, has_two_lengths, job_fault, lengths_of};
 
 use crate::fault::JobFault;
 use crate::names::has_number;
@@ -24,7 +23,8 @@ pub struct Length {
 
 /// Whether none of the others gives the dimension of the first another length.
 fn agrees(first: Length, others: &[Length]) -> bool
-    ensures { result ≡ list_all (λ b. not (b.dim == first.dim) || b.length_of == first.length_of) others.now }
+    ensures { result ≡ list_all (λ b. not (b.dim == first.dim) || b.length_of == first.length_of)
+        others.now }
 {
     others
         .iter()
@@ -55,7 +55,8 @@ fn put_lengths(
     matrix: &Matrix,
     lengths: &mut Vec<Length>,
 ) -> Result<(), AllocError>
-    ensures { OnOk result (lengths.new.items ≡ lengths.old.items ++ lengths_of (operand.now ∷ []) (matrix.now ∷ [])) }
+    ensures { OnOk result (lengths.new.items ≡ lengths.old.items ++ lengths_of (operand.now ∷ [])
+        (matrix.now ∷ [])) }
 {
     lengths.push(Length {
         dim: operand.rows,
@@ -77,7 +78,8 @@ fn put_knowns(
 ) -> Result<(), AllocError>
     requires count { length bound.now ≡ length operands.now }
     requires within { All (λ k. k < length matrices.now) bound.now }
-    ensures { OnOk result (lengths.new.items ≡ lengths.old.items ++ lengths_of operands.now (map (nth_grid matrices.now) bound.now)) }
+    ensures { OnOk result (lengths.new.items ≡ lengths.old.items ++ lengths_of operands.now
+        (map (nth_grid matrices.now) bound.now)) }
 {
     for (i, operand) in operands.iter().enumerate() {
         put_lengths(operand, matrix_of(matrices, bound[i]), lengths)?;
@@ -96,7 +98,8 @@ fn lengths_of(
     requires count { length knowns.now ≡ length op.now.knowns }
     requires work { work < length matrices.now }
     requires knowns { All (λ k. k < length matrices.now) knowns.now }
-    ensures { IfOk result (λ lengths. lengths.items ≡ lengths_of (op.now.work ∷ op.now.knowns) (map (nth_grid matrices.now) (work ∷ knowns.now))) }
+    ensures { IfOk result (λ lengths. lengths.items ≡ lengths_of (op.now.work ∷ op.now.knowns)
+        (map (nth_grid matrices.now) (work ∷ knowns.now))) }
 {
     let mut lengths = Vec::new(alloc);
     put_lengths(&op.work, matrix_of(matrices, work), &mut lengths)?;
@@ -111,7 +114,8 @@ fn statement(
     work: u32,
     knowns: &[u32],
 ) -> Result<Statement, AllocError>
-    ensures { IfOk result (λ s. s ≡ record { operation = operation; bind = record { work = work; knowns = knowns.now } }) }
+    ensures { IfOk result (λ s.
+        s ≡ record { operation = operation; bind = record { work = work; knowns = knowns.now } }) }
 {
     let mut numbers = Vec::new(alloc);
     numbers.extend_from_slice(knowns)?;
@@ -135,7 +139,9 @@ pub fn bind(
     bound: &[u32],
 ) -> Result<Statement, JobFault>
     requires { All (λ k. k < length matrices.now) bound.now }
-    ensures { (words : List (List ℕ)) → Gives text_fault (λ s. s) result (bound_at (record { number = number; words = words }) op.now matrices.now operation bound.now) }
+    ensures { (words : List (List ℕ)) → Gives job_fault (λ s. s) result
+        (bound_at (record { number = number; words = words }) op.now matrices.now operation
+        bound.now) }
 {
     match bound {
         [work, knowns @ ..] => {

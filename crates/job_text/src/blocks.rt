@@ -1,31 +1,23 @@
 //! The operation blocks and the matrix blocks of a job.
 
-ghost use Rattle.std.specs.Prelude.{◌≡◌, ◌+◌, ◌*◌, ◌-◌, ◌<◌, ◌≤◌, ◌^◌, ◌∷◌, [], ℕ, length, drop, map, not, Ok, IfOk, IsTrue};
-ghost use Rattle.std.specs.List.{prefix_len};
-ghost use Rattle.std.specs.Str.{bytes_eq};
+ghost use Rattle.std.specs.Prelude.{◌≡◌, ◌*◌, ◌-◌, ◌<◌, ◌≤◌, [], suc, length, IfOk};
 ghost use Rattle.byte_texts.specs.Reading.{Gives};
-ghost use Rattle.text_scan.specs.Lines.{end_line_of, lines_of};
-ghost use Rattle.text_scan.specs.Scanned.{AreTokens};
-ghost use Rattle.text_scan.specs.Tokens.{tokens_of};
-ghost use Rattle.operation_spec.specs.Equations.{number_of};
-ghost use Rattle.operation_spec.specs.OperationFaults.{is_name_line, operation_at};
-ghost use Rattle.operation_spec.specs.TokenLines.{line_at, words_of};
-ghost use Rattle.matrix_text.specs.MatrixFaults.{is_heading, matrix_at};
+ghost use Rattle.operation_spec.specs.OperationFaults.{operation_at};
+ghost use Rattle.matrix_text.specs.MatrixFaults.{matrix_at};
 ghost use Rattle.equation.specs.Jobs.{entry_count};
-ghost use Rattle.job_text.specs.JobFaults.{Matrices, entry_limit, fault_of_matrix, fault_of_spec, matrices_at, matrix_head_at, operation_head_at, operations_at, or_else};
+ghost use Rattle.job_text.specs.JobFaults.{entry_limit, job_fault, matrices_at, matrix_head_at, matrix_limit, operation_head_at, operation_limit, operations_at};
 ghost use Rattle.job_text.specs.MatricesSeen.{matrices_seen};
-ghost use Rattle.job_text.specs.Sections.{matrix_in, operation_in, text_fault};
+ghost use Rattle.job_text.specs.Sections.{matrix_in, operation_in};
 
 use crate::fault::JobFault;
-use crate::header::{begins, due, tokens_from};
 use crate::names::operation_number;
 use equation::OperationList;
 use field_word::Modulus;
 use matrix_core::{Matrix, MatrixList};
-use matrix_text::{is_heading, read_matrix};
-use operation_spec::{Operation, is_name_line, number_of, read_operation};
+use matrix_text::{is_heading, next_matrix};
+use operation_spec::{Operation, is_name_line, next_operation};
 use std::alloc::Global;
-use text_scan::{Name, NameList, Token};
+use text_scan::{Lines, Name, NameList, TextLine, is_among};
 
 /// How many operations a job may have.
 const OPERATION_LIMIT: usize = 16;
@@ -38,109 +30,72 @@ const ENTRY_LIMIT: u32 = 4_194_304;
 
 // ---- operations
 
-/// Tests the first line of a block against the operations above it.
+/// Tests the first line of a block against the operations above it, where the text ends on a line.
 #[tactic(auto, unfolding(crate::specs::JobFaults::operation_head_at))]
-fn operation_head(
-    bytes: &[u8],
-    end: u32,
-    number: u32,
-    tokens: &[Token],
-    found: &[Operation],
-) -> Result<(), JobFault>
-    requires { AreTokens 1 bytes.now tokens.now }
-    ensures head { Gives text_fault (λ _. tt) result (operation_head_at end found.now (line_at number bytes.now tokens.now)) }
+fn operation_head(end: u32, line: &TextLine<'_>, found: &[Operation]) -> Result<(), JobFault>
+    ensures head { Gives job_fault (λ _. tt) result (operation_head_at end found.now line.now) }
     ensures room { IfOk result (λ _. length found.now < 16) }
 {
-    if number == end || !is_name_line(bytes, tokens) {
+    let number = line.number();
+    if number == end || !is_name_line(line) {
         return Err(JobFault::Syntax { line: number });
     }
     if found.len() >= OPERATION_LIMIT {
         return Err(JobFault::Limit { line: number });
     }
-    if operation_number(found, tokens[1].text(bytes)) < found.len() {
+    if operation_number(found, line.word(1)) < found.len() {
         return Err(JobFault::NameTwice { line: number });
     }
     Ok(())
 }
 
-/// Reads the block from token `at` on, and answers the place of the token behind it.
-fn operation_block(
-    alloc: Global,
-    bytes: &[u8],
-    tokens: &Vec<Token>,
-    at: usize,
-) -> Result<(Operation, usize), JobFault>
-    requires short { length bytes.now ≤ 67108865 }
-    requires scanned { tokens_of 1 bytes.now ≡ Ok tokens.now.items }
-    requires place { at ≤ length tokens.now.items }
-    ensures read { Gives text_fault (λ x. (x.0, lines_of bytes.now (drop x.1 tokens.now.items)))
-        result (or_else fault_of_spec (operation_at (end_line_of 1 bytes.now) (lines_of bytes.now (drop at tokens.now.items)))) }
-    ensures fewer { IfOk result (λ x. length (lines_of bytes.now (drop x.1 tokens.now.items)) < length (lines_of bytes.now (drop at tokens.now.items))) }
-    ensures behind { IfOk result (λ x. x.1 ≤ length tokens.now.items) }
+/// Reads the block that the first line begins.
+fn operation_block(alloc: Global, lines: &mut Lines<'_>) -> Result<Operation, JobFault>
+    ensures read { Gives job_fault (λ op. (op, lines.new.lines)) result
+        (operation_at lines.old.end lines.old.lines) }
+    ensures end { lines.new.end ≡ lines.old.end }
 {
-    match read_operation(alloc, bytes, tokens, at) {
-        Ok(read) => Ok(read),
+    match next_operation(alloc, lines) {
+        Ok(operation) => Ok(operation),
         Err(fault) => Err(JobFault::from(fault)),
     }
 }
 
-/// Reads the block from token `at` on, which stands behind other operations.
+/// Reads the block that the first line begins, which stands behind other operations.
 #[tactic(auto, unfolding(crate::specs::JobFaults::next_operation_at))]
-fn next_operation(
+fn further_operation(
     alloc: Global,
-    bytes: &[u8],
-    end: u32,
-    tokens: &Vec<Token>,
-    at: usize,
+    lines: &mut Lines<'_>,
     found: &[Operation],
-) -> Result<(Operation, usize), JobFault>
-    requires short { length bytes.now ≤ 67108865 }
-    requires scanned { tokens_of 1 bytes.now ≡ Ok tokens.now.items }
-    requires place { at ≤ length tokens.now.items }
-    requires end { end ≡ end_line_of 1 bytes.now }
-    ensures read { Gives text_fault (λ x. (x.0, lines_of bytes.now (drop x.1 tokens.now.items)))
-        result (operation_in end found.now (lines_of bytes.now (drop at tokens.now.items))) }
-    ensures fewer { IfOk result (λ x. length (lines_of bytes.now (drop x.1 tokens.now.items)) < length (lines_of bytes.now (drop at tokens.now.items))) }
-    ensures behind { IfOk result (λ x. x.1 ≤ length tokens.now.items) }
+) -> Result<Operation, JobFault>
+    ensures read { Gives job_fault (λ op. (op, lines.new.lines)) result
+        (operation_in lines.old.end found.now lines.old.lines) }
     ensures room { IfOk result (λ _. length found.now < 16) }
+    ensures end { lines.new.end ≡ lines.old.end }
 {
-    let line = due(bytes, 1, tokens_from(tokens, at))?;
-    operation_head(bytes, end, line.number, line.tokens, found)?;
-    operation_block(alloc, bytes, tokens, at)
+    let end = lines.end();
+    match lines.peek() {
+        Some(line) => {
+            operation_head(end, &line, found)?;
+            operation_block(alloc, lines)
+        }
+        None => Err(JobFault::Syntax { line: end }),
+    }
 }
 
-/// Reads the operation blocks from token `at` on, and answers the place of the token behind them.
-pub fn read_operations(
-    alloc: Global,
-    bytes: &[u8],
-    end: u32,
-    tokens: &Vec<Token>,
-    at: usize,
-) -> Result<(OperationList, usize), JobFault>
-    requires short { length bytes.now ≤ 67108865 }
-    requires scanned { tokens_of 1 bytes.now ≡ Ok tokens.now.items }
-    requires place { at ≤ length tokens.now.items }
-    requires end { end ≡ end_line_of 1 bytes.now }
-    ensures read { Gives text_fault (λ x. (x.0, lines_of bytes.now (drop x.1 tokens.now.items)))
-        result (operations_at (length (lines_of bytes.now tokens.now.items)) end [] (lines_of bytes.now (drop at tokens.now.items))) }
-    ensures behind { IfOk result (λ x. x.1 ≤ length tokens.now.items) }
-    ensures few { IfOk result (λ x. length x.0 ≤ 16) }
+/// Reads the operation blocks.
+pub fn read_operations(alloc: Global, lines: &mut Lines<'_>) -> Result<OperationList, JobFault>
+    ensures read { Gives job_fault (λ x. (x, lines.new.lines)) result
+        (operations_at (suc operation_limit) lines.old.end [] lines.old.lines) }
+    ensures few { IfOk result (λ x. length x ≤ 16) }
+    ensures end { lines.new.end ≡ lines.old.end }
 {
     let mut found = OperationList::new(alloc);
-    let mut place = at;
-    while begins(bytes, b"operation", tokens_from(tokens, place)) {
-        let (operation, behind) = next_operation(
-            alloc,
-            bytes,
-            end,
-            tokens,
-            place,
-            found.as_slice(),
-        )?;
+    while lines.begins(b"operation") {
+        let operation = further_operation(alloc, lines, found.as_slice())?;
         found.push(operation)?;
-        place = behind;
     }
-    Ok((found, place))
+    Ok(found)
 }
 
 // ---- matrices
@@ -152,116 +107,97 @@ pub struct NamedMatrices {
     pub matrices: MatrixList,
 }
 
-/// Tests the first line of a block against the matrices above it.
+/// Tests the first line of a block against the matrices above it, where the text ends on a line.
 #[tactic(auto, unfolding(crate::specs::JobFaults::matrix_head_at))]
 fn matrix_head(
-    bytes: &[u8],
     end: u32,
-    number: u32,
-    tokens: &[Token],
+    line: &TextLine<'_>,
     names: &[Name],
     matrices: &[Matrix],
 ) -> Result<(), JobFault>
-    requires { AreTokens 1 bytes.now tokens.now }
-    ensures head { Gives text_fault (λ _. tt) result (matrix_head_at end (record { names = names.now; grids = matrices.now }) (line_at number bytes.now tokens.now)) }
+    ensures head { Gives job_fault (λ _. tt) result
+        (matrix_head_at end (record { names = names.now; grids = matrices.now }) line.now) }
     ensures room { IfOk result (λ _. length matrices.now < 32) }
 {
-    if number == end || !is_heading(bytes, tokens) {
+    let number = line.number();
+    if number == end || !is_heading(line) {
         return Err(JobFault::Syntax { line: number });
     }
     if matrices.len() >= MATRIX_LIMIT {
         return Err(JobFault::Limit { line: number });
     }
-    if number_of(names, tokens[1].text(bytes)) < names.len() {
+    if is_among(names, line.word(1)) {
         return Err(JobFault::NameTwice { line: number });
     }
     Ok(())
 }
 
-/// Reads the block from token `at` on, and answers the place of the token behind it.
+/// Reads the block that the first line begins, which has room for so many entries.
 fn matrix_block(
     alloc: Global,
-    bytes: &[u8],
-    tokens: &Vec<Token>,
-    at: usize,
+    lines: &mut Lines<'_>,
     m: Modulus,
     room: u32,
-) -> Result<(Name, Matrix, usize), JobFault>
-    requires short { length bytes.now ≤ 67108865 }
-    requires scanned { tokens_of 1 bytes.now ≡ Ok tokens.now.items }
-    requires place { at ≤ length tokens.now.items }
-    ensures read { Gives text_fault (λ x. (record { name = x.0; grid = x.1 }, lines_of bytes.now (drop x.2 tokens.now.items)))
-        result (or_else fault_of_matrix (matrix_at (end_line_of 1 bytes.now) m room (lines_of bytes.now (drop at tokens.now.items)))) }
-    ensures fewer { IfOk result (λ x. length (lines_of bytes.now (drop x.2 tokens.now.items)) < length (lines_of bytes.now (drop at tokens.now.items))) }
-    ensures behind { IfOk result (λ x. x.2 ≤ length tokens.now.items) }
+) -> Result<(Name, Matrix), JobFault>
+    ensures read { Gives job_fault (λ x. (record { name = x.0; grid = x.1 }, lines.new.lines))
+        result (matrix_at lines.old.end m room lines.old.lines) }
     ensures fits { IfOk result (λ x. x.1.rows * x.1.cols ≤ room) }
+    ensures end { lines.new.end ≡ lines.old.end }
 {
-    match read_matrix(alloc, bytes, tokens, at, m, room) {
+    match next_matrix(alloc, lines, m, room) {
         Ok(read) => Ok(read),
         Err(fault) => Err(JobFault::from(fault)),
     }
 }
 
-/// Reads the block from token `at` on, which stands behind other matrices and has room for so many entries.
+/// Reads the block that the first line begins, which stands behind other matrices and has room for so many entries.
 #[tactic(auto, unfolding(crate::specs::JobFaults::next_matrix_at))]
-fn next_matrix(
+fn further_matrix(
     alloc: Global,
-    bytes: &[u8],
-    end: u32,
-    tokens: &Vec<Token>,
-    at: usize,
+    lines: &mut Lines<'_>,
     m: Modulus,
     room: u32,
     names: &[Name],
     matrices: &[Matrix],
-) -> Result<(Name, Matrix, usize), JobFault>
-    requires short { length bytes.now ≤ 67108865 }
-    requires scanned { tokens_of 1 bytes.now ≡ Ok tokens.now.items }
-    requires place { at ≤ length tokens.now.items }
-    requires end { end ≡ end_line_of 1 bytes.now }
-    requires room { room ≡ entry_limit - entry_count matrices.now }
-    ensures read { Gives text_fault (λ x. (record { name = x.0; grid = x.1 }, lines_of bytes.now (drop x.2 tokens.now.items)))
-        result (matrix_in end m (record { names = names.now; grids = matrices.now }) (lines_of bytes.now (drop at tokens.now.items))) }
-    ensures fewer { IfOk result (λ x. length (lines_of bytes.now (drop x.2 tokens.now.items)) < length (lines_of bytes.now (drop at tokens.now.items))) }
-    ensures behind { IfOk result (λ x. x.2 ≤ length tokens.now.items) }
+) -> Result<(Name, Matrix), JobFault>
+    requires { room ≡ entry_limit - entry_count matrices.now }
+    ensures read { Gives job_fault (λ x. (record { name = x.0; grid = x.1 }, lines.new.lines))
+        result (matrix_in lines.old.end m
+        (record { names = names.now; grids = matrices.now }) lines.old.lines) }
     ensures fits { IfOk result (λ x. x.1.rows * x.1.cols ≤ room) }
     ensures few { IfOk result (λ _. length matrices.now < 32) }
+    ensures end { lines.new.end ≡ lines.old.end }
 {
-    let line = due(bytes, 1, tokens_from(tokens, at))?;
-    matrix_head(bytes, end, line.number, line.tokens, names, matrices)?;
-    matrix_block(alloc, bytes, tokens, at, m, room)
+    let end = lines.end();
+    match lines.peek() {
+        Some(line) => {
+            matrix_head(end, &line, names, matrices)?;
+            matrix_block(alloc, lines, m, room)
+        }
+        None => Err(JobFault::Syntax { line: end }),
+    }
 }
 
-/// Reads the matrix blocks from token `at` on, and answers the place of the token behind them.
+/// Reads the matrix blocks.
 pub fn read_matrices(
     alloc: Global,
-    bytes: &[u8],
-    end: u32,
-    tokens: &Vec<Token>,
-    at: usize,
+    lines: &mut Lines<'_>,
     m: Modulus,
-) -> Result<(NamedMatrices, usize), JobFault>
-    requires short { length bytes.now ≤ 67108865 }
-    requires scanned { tokens_of 1 bytes.now ≡ Ok tokens.now.items }
-    requires place { at ≤ length tokens.now.items }
-    requires end { end ≡ end_line_of 1 bytes.now }
-    ensures read { Gives text_fault (λ x. (matrices_seen x.0, lines_of bytes.now (drop x.1 tokens.now.items)))
-        result (matrices_at (length (lines_of bytes.now tokens.now.items)) end m (record { names = []; grids = [] }) (lines_of bytes.now (drop at tokens.now.items))) }
-    ensures behind { IfOk result (λ x. x.1 ≤ length tokens.now.items) }
-    ensures same { IfOk result (λ x. length x.0.names ≡ length x.0.matrices) }
-    ensures few { IfOk result (λ x. length x.0.matrices ≤ 32) }
+) -> Result<NamedMatrices, JobFault>
+    ensures read { Gives job_fault (λ x. (matrices_seen x, lines.new.lines)) result
+        (matrices_at (suc matrix_limit) lines.old.end m
+        (record { names = []; grids = [] }) lines.old.lines) }
+    ensures same { IfOk result (λ x. length x.names ≡ length x.matrices) }
+    ensures few { IfOk result (λ x. length x.matrices ≤ 32) }
+    ensures end { lines.new.end ≡ lines.old.end }
 {
     let mut names = NameList::new(alloc);
     let mut matrices = MatrixList::new(alloc);
     let mut room = ENTRY_LIMIT;
-    let mut place = at;
-    while begins(bytes, b"matrix", tokens_from(tokens, place)) {
-        let (name, matrix, behind) = next_matrix(
+    while lines.begins(b"matrix") {
+        let (name, matrix) = further_matrix(
             alloc,
-            bytes,
-            end,
-            tokens,
-            place,
+            lines,
             m,
             room,
             names.as_slice(),
@@ -270,7 +206,6 @@ pub fn read_matrices(
         room -= matrix.rows() * matrix.cols();
         names.push(name)?;
         matrices.push(matrix)?;
-        place = behind;
     }
-    Ok((NamedMatrices { names, matrices }, place))
+    Ok(NamedMatrices { names, matrices })
 }

@@ -1,11 +1,14 @@
 ghost use Rattle.std.specs.Prelude.{◌≡◌};
-ghost use Rattle.job_text.specs.declared.fault.JobFault.TheVariants.{Memory};
-ghost use Rattle.job_text.specs.JobFaults.{fault_of_matrix, fault_of_spec, fault_of_scan};
+ghost use Rattle.text_scan.specs.Tokens.{scan_fault};
+ghost use Rattle.operation_spec.specs.OperationFaults.{spec_fault};
+ghost use Rattle.matrix_text.specs.MatrixFaults.{matrix_fault};
+ghost use Rattle.job_text.specs.declared.fault.JobFault.TheVariants.{Memory, Syntax};
+ghost use Rattle.job_text.specs.JobFaults.{job_fault};
 
 use matrix_text::MatrixFault;
 use operation_spec::SpecFault;
 use std::alloc::{AllocError, AllocFailed};
-use text_scan::ScanFault;
+use text_scan::{ScanFault, TextEnd};
 use thiserror::Error;
 
 /// Why an input was not read as a job. Each fault of the text has the number of its line.
@@ -85,8 +88,16 @@ impl<T: Drop> From<AllocFailed<T>> for JobFault {
     }
 }
 
+impl From<TextEnd> for JobFault {
+    ghost from_gives = { λ end e. e ≡ Syntax end.line };
+
+    fn from(end: TextEnd) -> JobFault {
+        JobFault::Syntax { line: end.line }
+    }
+}
+
 impl From<SpecFault> for JobFault {
-    ghost from_gives = { λ fault e. e ≡ fault_of_spec fault };
+    ghost from_gives = { λ fault e. job_fault e ≡ spec_fault fault };
 
     fn from(fault: SpecFault) -> JobFault {
         match fault {
@@ -103,7 +114,7 @@ impl From<SpecFault> for JobFault {
 }
 
 impl From<MatrixFault> for JobFault {
-    ghost from_gives = { λ fault e. e ≡ fault_of_matrix fault };
+    ghost from_gives = { λ fault e. job_fault e ≡ matrix_fault fault };
 
     fn from(fault: MatrixFault) -> JobFault {
         match fault {
@@ -117,7 +128,7 @@ impl From<MatrixFault> for JobFault {
 }
 
 impl From<ScanFault> for JobFault {
-    ghost from_gives = { λ fault e. e ≡ fault_of_scan fault };
+    ghost from_gives = { λ fault e. job_fault e ≡ scan_fault fault };
 
     fn from(fault: ScanFault) -> JobFault {
         match fault {

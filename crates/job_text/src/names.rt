@@ -1,26 +1,14 @@
 //! Names of a text, and their numbers among those that are declared.
 
-ghost use Rattle.std.specs.Prelude.{◌≡◌, ◌<◌, ◌≤◌, length, map, not, ◌==◌, IfOk};
+ghost use Rattle.std.specs.Prelude.{◌≡◌, ◌≤◌, length, map, not, ◌==◌, IfOk};
 ghost use Rattle.std.specs.List.{list_all, prefix_len};
 ghost use Rattle.std.specs.Str.{bytes_eq};
-ghost use Rattle.text_scan.specs.Scanned.{AreTokens};
-ghost use Rattle.operation_spec.specs.Equations.{number_of};
-ghost use Rattle.operation_spec.specs.OperationFaults.{is_among, nth_word};
-ghost use Rattle.operation_spec.specs.TokenLines.{words_of};
+ghost use Rattle.text_scan.specs.Names.{is_among, number_of};
 ghost use Rattle.job_text.specs.JobFaults.{has_number};
 
-use operation_spec::{Operation, number_of};
+use operation_spec::Operation;
 use std::alloc::{AllocError, Global};
-use text_scan::{Name, Token};
-
-/// The text of a word of a line.
-pub fn word_at<'a>(bytes: &'a [u8], tokens: &[Token], at: usize) -> &'a [u8]
-    requires scanned { AreTokens 1 bytes.now tokens.now }
-    requires within { at < length tokens.now }
-    ensures { result.now ≡ nth_word (words_of bytes.now tokens.now) at }
-{
-    tokens[at].text(bytes)
-}
+use text_scan::{Name, Words, is_among, number_of};
 
 /// How many operations stand before the first with this name.
 fn others_before(operations: &[Operation], text: &[u8]) -> usize
@@ -42,33 +30,28 @@ pub fn operation_number(operations: &[Operation], text: &[u8]) -> usize
     others_before(operations, text)
 }
 
-/// Whether each of the tokens is one of the names.
-pub fn are_among(bytes: &[u8], names: &[Name], tokens: &[Token]) -> bool
-    requires { AreTokens 1 bytes.now tokens.now }
-    ensures { result ≡ list_all (is_among names.now) (words_of bytes.now tokens.now) }
+/// Whether each of the words is one of the names.
+pub fn are_among(names: &[Name], words: Words<'_>) -> bool
+    ensures { result ≡ list_all (is_among names.now) words.entry }
 {
-    for token in tokens {
-        if number_of(names, token.text(bytes)) >= names.len() {
+    let mut rest = words;
+    while let Some(word) = rest.next() {
+        if !is_among(names, word) {
             return false;
         }
     }
     true
 }
 
-/// The numbers that the tokens have among the names.
-pub fn numbers_of(
-    alloc: Global,
-    bytes: &[u8],
-    names: &[Name],
-    tokens: &[Token],
-) -> Result<Vec<u32>, AllocError>
-    requires scanned { AreTokens 1 bytes.now tokens.now }
-    requires few { length names.now ≤ 32 }
-    ensures { IfOk result (λ numbers. numbers.items ≡ map (number_of names.now) (words_of bytes.now tokens.now)) }
+/// The numbers that the words have among the names.
+pub fn numbers_of(alloc: Global, names: &[Name], words: Words<'_>) -> Result<Vec<u32>, AllocError>
+    requires { length names.now ≤ 32 }
+    ensures { IfOk result (λ numbers. numbers.items ≡ map (number_of names.now) words.entry) }
 {
     let mut numbers = Vec::new(alloc);
-    for token in tokens {
-        numbers.push(number_of(names, token.text(bytes)) as u32)?;
+    let mut rest = words;
+    while let Some(word) = rest.next() {
+        numbers.push(number_of(names, word) as u32)?;
     }
     Ok(numbers)
 }

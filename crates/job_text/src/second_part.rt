@@ -1,49 +1,11 @@
 //! The second part of an input: where it begins.
 
 ghost use Rattle.std.specs.Prelude.{◌≡◌, ◌-◌, ◌<◌, ◌≤◌, length, ◌==◌, if◌then◌else◌};
-ghost use Rattle.text_scan.specs.Lines.{lines_of};
-ghost use Rattle.text_scan.specs.Scanned.{AreTokens};
-ghost use Rattle.job_text.specs.SecondParts.{behind_first, from_word, rest_at, stops};
+ghost use Rattle.text_scan.specs.Lines.{end_line_of};
+ghost use Rattle.job_text.specs.SecondParts.{from_word, rest_at};
 ghost use Rattle.job_text.specs.SpelledJobs.{place_behind};
 
-use crate::header::first_line;
-use text_scan::{Rest, Token, end_line};
-
-/// Whether the first line begins with the word, or there is none.
-fn stops(bytes: &[u8], word: &[u8], tokens: &[Token]) -> bool
-    requires { AreTokens 1 bytes.now tokens.now }
-    ensures { result ≡ stops word.now (lines_of bytes.now tokens.now) }
-{
-    match tokens {
-        [first, ..] => first.is_text(bytes, word),
-        [] => true,
-    }
-}
-
-/// The tokens behind the first line.
-fn behind_first<'a>(bytes: &[u8], tokens: &'a [Token]) -> &'a [Token]
-    requires { AreTokens 1 bytes.now tokens.now }
-    ensures scanned { AreTokens 1 bytes.now result.now }
-    ensures lines { lines_of bytes.now result.now ≡ behind_first (lines_of bytes.now tokens.now) }
-{
-    match first_line(bytes, tokens) {
-        Some(line) => line.rest,
-        None => tokens,
-    }
-}
-
-/// The tokens from the first line on that begins with the word.
-pub fn from_word<'a>(bytes: &[u8], word: &[u8], tokens: &'a [Token]) -> &'a [Token]
-    requires { AreTokens 1 bytes.now tokens.now }
-    ensures scanned { AreTokens 1 bytes.now result.now }
-    ensures lines { lines_of bytes.now result.now ≡ from_word word.now (lines_of bytes.now tokens.now) }
-{
-    let mut rest = tokens;
-    while !stops(bytes, word, rest) {
-        rest = behind_first(bytes, rest);
-    }
-    rest
-}
+use text_scan::{Lines, Rest};
 
 /// How many line feeds are left to pass, behind this byte.
 fn feeds_behind(b: u8, left: u32) -> u32
@@ -67,21 +29,25 @@ fn place_behind(feeds: u32, bytes: &[u8]) -> usize
     at
 }
 
-/// Where the first line of the tokens begins, or the end of the bytes.
-pub fn place_of_line(bytes: &[u8], tokens: &[Token]) -> Rest
+/// Where the first of the lines begins that begins with the word, or the end of the bytes. The lines are those of these
+/// bytes.
+pub fn place_from_word(bytes: &[u8], lines: &mut Lines<'_>, word: &[u8]) -> Rest
     requires short { length bytes.now ≤ 67108865 }
-    requires scanned { AreTokens 1 bytes.now tokens.now }
-    ensures value { result ≡ rest_at bytes.now (lines_of bytes.now tokens.now) }
+    requires end { lines.old.end ≡ end_line_of 1 bytes.now }
+    ensures value { result ≡ rest_at bytes.now (from_word word.now lines.old.lines) }
     ensures within { result.at ≤ length bytes.now }
 {
-    match first_line(bytes, tokens) {
-        Some(line) => Rest {
-            at: place_behind(line.number.saturating_sub(1), bytes) as u32,
-            line: line.number,
-        },
-        None => Rest {
-            at: bytes.len() as u32,
-            line: end_line(1, bytes),
-        },
+    while let Some(line) = lines.next() {
+        if line.begins_with(word) {
+            let number = line.number();
+            return Rest {
+                at: place_behind(number.saturating_sub(1), bytes) as u32,
+                line: number,
+            };
+        }
+    }
+    Rest {
+        at: bytes.len() as u32,
+        line: lines.end(),
     }
 }

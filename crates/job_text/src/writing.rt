@@ -2,7 +2,7 @@
 
 ghost use Rattle.std.specs.Prelude.{◌≡◌, ◌<◌, [], ◌∷◌, ◌++◌, length, codes, decimal, map, OnOk, OnErr};
 ghost use Rattle.std.specs.List.{flat_map};
-ghost use Rattle.byte_texts.specs.MatrixTexts.{matrix_text};
+ghost use Rattle.matrix_text.specs.MatrixTexts.{matrix_text};
 ghost use Rattle.text_scan.specs.NormalTexts.{line_text, lines_text};
 ghost use Rattle.operation_spec.specs.OperationLines.{nth_name, operation_lines};
 ghost use Rattle.operation_spec.specs.WordTexts.{words_text};
@@ -21,7 +21,8 @@ use text_scan::Name;
 
 /// Appends the first two lines.
 fn put_header(modulus: Modulus, out: &mut Vec<u8>) -> Result<(), AllocError>
-    ensures { OnOk result (out.new.items ≡ out.old.items ++ codes "flame 1\nmodulus " ++ decimal modulus ++ codes "\n") }
+    ensures { OnOk result (out.new.items ≡ out.old.items ++ codes "flame 1\nmodulus "
+        ++ decimal modulus ++ codes "\n") }
 {
     out.extend_from_slice(b"flame 1\nmodulus ")?;
     put_decimal(modulus.value(), out)?;
@@ -34,7 +35,8 @@ fn put_operations(
     operations: &[Operation],
     out: &mut Vec<u8>,
 ) -> Result<(), AllocError>
-    ensures { OnOk result (out.new.items ≡ out.old.items ++ flat_map (λ op. lines_text (operation_lines op)) operations.now) }
+    ensures { OnOk result (out.new.items ≡ out.old.items ++ flat_map
+        (λ op. lines_text (operation_lines op)) operations.now) }
 {
     for operation in operations {
         write_operation(alloc, operation, out)?;
@@ -63,7 +65,8 @@ fn operation_name(operations: &[Operation], n: u32) -> &[u8]
 }
 
 fn put_names(names: &[Name], numbers: &[u32], out: &mut Vec<u8>) -> Result<(), AllocError>
-    ensures { OnOk result (out.new.items ≡ out.old.items ++ words_text (map (nth_name names.now) numbers.now)) }
+    ensures { OnOk result (out.new.items ≡ out.old.items ++ words_text
+        (map (nth_name names.now) numbers.now)) }
 {
     for n in numbers {
         put_word(name_of(names, *n), out)?;
@@ -72,7 +75,8 @@ fn put_names(names: &[Name], numbers: &[u32], out: &mut Vec<u8>) -> Result<(), A
 }
 
 fn put_print(names: &[Name], n: u32, out: &mut Vec<u8>) -> Result<(), AllocError>
-    ensures { OnOk result (out.new.items ≡ out.old.items ++ line_text (codes "print" ∷ nth_name names.now n ∷ [])) }
+    ensures { OnOk result (out.new.items ≡ out.old.items ++ line_text
+        (codes "print" ∷ nth_name names.now n ∷ [])) }
 {
     out.extend_from_slice(b"print")?;
     put_word(name_of(names, n), out)?;
@@ -81,7 +85,8 @@ fn put_print(names: &[Name], n: u32, out: &mut Vec<u8>) -> Result<(), AllocError
 }
 
 fn put_prints(job: &Job, out: &mut Vec<u8>) -> Result<(), AllocError>
-    ensures { OnOk result (out.new.items ≡ out.old.items ++ lines_text (map (print_line job.now) job.now.prints)) }
+    ensures { OnOk result (out.new.items ≡ out.old.items ++ lines_text
+        (map (print_line job.now) job.now.prints)) }
 {
     for n in job.prints.as_slice() {
         put_print(job.names.as_slice(), *n, out)?;
@@ -90,7 +95,8 @@ fn put_prints(job: &Job, out: &mut Vec<u8>) -> Result<(), AllocError>
 }
 
 fn put_statement(job: &Job, s: &Statement, out: &mut Vec<u8>) -> Result<(), AllocError>
-    ensures { OnOk result (out.new.items ≡ out.old.items ++ line_text (statement_line job.now s.now)) }
+    ensures { OnOk result (out.new.items ≡ out.old.items ++ line_text
+        (statement_line job.now s.now)) }
 {
     let names = job.names.as_slice();
     out.extend_from_slice(b"do")?;
@@ -102,7 +108,8 @@ fn put_statement(job: &Job, s: &Statement, out: &mut Vec<u8>) -> Result<(), Allo
 }
 
 fn put_statements(job: &Job, out: &mut Vec<u8>) -> Result<(), AllocError>
-    ensures { OnOk result (out.new.items ≡ out.old.items ++ lines_text (map (statement_line job.now) job.now.statements)) }
+    ensures { OnOk result (out.new.items ≡ out.old.items ++ lines_text
+        (map (statement_line job.now) job.now.statements)) }
 {
     for s in job.statements.as_slice() {
         put_statement(job, s, out)?;
@@ -120,7 +127,8 @@ fn put_block(
 ) -> Result<(), AllocError>
     requires name { at < length names.now }
     requires matrix { at < length matrices.now }
-    ensures { OnOk result (out.new.items ≡ out.old.items ++ matrix_text (nth_name names.now at) (nth_grid matrices.now at)) }
+    ensures { OnOk result (out.new.items ≡ out.old.items ++ matrix_text (nth_name names.now at)
+        (nth_grid matrices.now at)) }
 {
     write_matrix(alloc, &names[at], &matrices[at], out)
 }

@@ -1,3 +1,4 @@
+pub mod EntryTexts
 pub mod Found
 pub mod MatrixRows
 pub mod MatrixSpelling
@@ -5,7 +6,6 @@ pub mod PrintedLines
 pub mod PrintedTexts
 pub mod RowNumbers
 pub mod Rows
-pub mod TokenWords
 pub mod WordLists
 pub mod WrittenMatrix
 mod WorkedTexts

@@ -11,16 +11,15 @@ use Rattle.byte_texts.specs.Reading.{◌>>=◌}
 use Rattle.byte_texts.proofs.Binding.{bind_ok, same_ok}
 use Rattle.text_scan.specs.declared.token.TokenKind.{TokenKind}
 use Rattle.text_scan.specs.declared.token.TokenKind.TheVariants.{Name, Number}
-use Rattle.text_scan.specs.Faults.{Test}
+use Rattle.text_scan.specs.FaultKinds.{Syntax, RowLength, EntryRange}
+use Rattle.text_scan.specs.Faults.{Fault, Test, ◌on◌}
 use Rattle.text_scan.specs.LineOrder.{AreLines}
-use Rattle.text_scan.specs.Lines.{Line}
+use Rattle.text_scan.specs.Lines.{Line, is_end}
 use Rattle.text_scan.specs.Words.{is_word, is_number, number_value, kind_of}
 use Rattle.text_scan.proofs.FaultTests.{passed}
 use Rattle.text_scan.proofs.LineOrders.{AreLines-parts, AreLines-inner, is_line-words}
 use Rattle.text_scan.proofs.NumberTexts.{number_word, decimal_number, is_number-parts, bytes_eq-kinds}
-use Rattle.matrix_text.specs.declared.fault.MatrixFault.{MatrixFault}
-use Rattle.matrix_text.specs.declared.fault.MatrixFault.TheVariants.{Syntax, RowLength, EntryRange}
-use Rattle.matrix_text.specs.MatrixFaults.{or_syntax, is_end, row_at, next_row_at, rows_at}
+use Rattle.matrix_text.specs.MatrixFaults.{row_at, next_row_at, rows_at}
 use Rattle.matrix_text.specs.MatrixLines.{row_lines}
 
 -- ---- the numbers of a row
@@ -93,9 +92,9 @@ by_tests false false first none = absurd cc
 row_passed : (m cols : ℕ) (line : Line) (row : List ℕ) → row_at m cols line ≡ Ok row → RowPassed m cols line row
 unfolding row_at
 row_passed m cols line row e =
-    let syntax : Test MatrixFault = record { holds = not (is_end line.words) && not (list_all is_number line.words); fault = Syntax line.number } in
-    let count : Test MatrixFault = record { holds = is_end line.words || not (length line.words == cols); fault = RowLength line.number } in
-    let range : Test MatrixFault = record { holds = not (list_all (λ w. nat_lt (number_value w) m) line.words); fault = EntryRange line.number } in
+    let syntax : Test Fault = record { holds = not (is_end line.words) && not (list_all is_number line.words); fault = Syntax on line.number } in
+    let count : Test Fault = record { holds = is_end line.words || not (length line.words == cols); fault = RowLength on line.number } in
+    let range : Test Fault = record { holds = not (list_all (λ w. nat_lt (number_value w) m) line.words); fault = EntryRange on line.number } in
     let first = passed syntax (count ∷ range ∷ []) (map number_value line.words) row e in
     let second = passed count (range ∷ []) (map number_value line.words) row first.1 in
     let third = passed range [] (map number_value line.words) row second.1 in
@@ -104,7 +103,7 @@ row_passed m cols line row e =
       numbers = by_tests (is_end line.words) (list_all is_number line.words) first.0 parts.0;
       count = eqb-true _ cols (not-false _ parts.1);
       below = not-false _ third.0;
-      values = same_ok {F = MatrixFault} (map number_value line.words) row third.1;
+      values = same_ok {F = Fault} (map number_value line.words) row third.1;
     }
 
 same_count : (words : List (List ℕ)) → length (map number_value words) ≡ length words
@@ -135,10 +134,10 @@ row_again m cols line row small is =
 -- ---- the next row
 
 abbrev Rows : Type 0
-Rows = Result (List ℕ × List Line) MatrixFault
+Rows = Result (List ℕ × List Line) Fault
 
 -- the line that was due isn't the last of its text
-pub inner_read : {B : Type 0} (last : Bool) (end : ℕ) (line : Line × List Line) (f : Line × List Line → Result B MatrixFault) (y : B) → (or_syntax (cond last (Err end) (Ok line)) >>= f) ≡ Ok y → f line ≡ Ok y
+pub inner_read : {B : Type 0} (last : Bool) (end : ℕ) (line : Line × List Line) (f : Line × List Line → Result B Fault) (y : B) → (cond last (Err (Syntax on end)) (Ok line) >>= f) ≡ Ok y → f line ≡ Ok y
 inner_read true end line f y e = absurd cc
 inner_read false end line f y e = e
 
@@ -150,7 +149,7 @@ next_row-line end m cols [] row behind e = absurd cc
 next_row-line end m cols (line ∷ lines) row behind e =
     let inner = inner_read (line.number == end) end (line, lines) (λ l. row_at m cols l.0 >>= λ r. Ok (r, l.1)) (row, behind) e in
     let read = bind_ok (row_at m cols line) (λ r. Ok (r, lines)) (row, behind) inner in
-    let same = same_ok {F = MatrixFault} (read.0, lines) (row, behind) read.2 in
+    let same = same_ok {F = Fault} (read.0, lines) (row, behind) read.2 in
     (line, ap (λ (p : List ℕ × List Line). line ∷ p.1) same, read.1 ∙ ap (λ (p : List ℕ × List Line). Ok p.0) same)
 
 pub next_row-again : (end m cols : ℕ) (line : Line) (behind : List Line) (row : List ℕ) → line.number ≢ end → row_at m cols line ≡ Ok row → next_row_at end m cols (line ∷ behind) ≡ Ok (row, behind)
@@ -166,13 +165,13 @@ unfolding rows_at
 rows-parts end m cols n lines xs behind e =
     let row = bind_ok (next_row_at end m cols lines) (λ row. rows_at end m cols n row.1 >>= λ others. Ok (row.0 ++ others.0, others.1)) (xs, behind) e in
     let others = bind_ok (rows_at end m cols n row.0.1) (λ others. Ok (row.0.0 ++ others.0, others.1)) (xs, behind) row.2 in
-    let same = same_ok {F = MatrixFault} (row.0.0 ++ others.0.0, others.0.1) (xs, behind) others.2 in
+    let same = same_ok {F = Fault} (row.0.0 ++ others.0.0, others.0.1) (xs, behind) others.2 in
     (row.0, others.0, row.1, others.1, ap (λ (p : List ℕ × List Line). p.0) same, ap (λ (p : List ℕ × List Line). p.1) same)
 
 rows-none : (end m cols : ℕ) (lines : List Line) (xs : List ℕ) (behind : List Line) → rows_at end m cols 0 lines ≡ Ok (xs, behind) → (xs ≡ []) × (lines ≡ behind)
 unfolding rows_at
 rows-none end m cols lines xs behind e =
-    let same = same_ok {F = MatrixFault} ([], lines) (xs, behind) e in
+    let same = same_ok {F = Fault} ([], lines) (xs, behind) e in
     (ap (λ (p : List ℕ × List Line). p.0) (sym same), ap (λ (p : List ℕ × List Line). p.1) same)
 
 -- rows have as many entries as there are places

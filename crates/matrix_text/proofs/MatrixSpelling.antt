@@ -11,16 +11,15 @@ use Rattle.std.proofs.lemmas.Slice.Eq.{bytes_eq-Decides}
 use Rattle.residue_sums.specs.Grids.{AreResidues, Grid, IsFull}
 use Rattle.byte_texts.specs.Reading.{◌>>=◌}
 use Rattle.byte_texts.proofs.Binding.{bind_ok, same_ok}
-use Rattle.text_scan.specs.Faults.{Test}
+use Rattle.text_scan.specs.FaultKinds.{Syntax, TooLarge}
+use Rattle.text_scan.specs.Faults.{Fault, Test, ◌on◌}
 use Rattle.text_scan.specs.LineOrder.{AreLines}
-use Rattle.text_scan.specs.Lines.{Line}
+use Rattle.text_scan.specs.Lines.{Line, is_end}
 use Rattle.text_scan.specs.Words.{is_word, is_name, is_number, number_value}
 use Rattle.text_scan.proofs.FaultTests.{passed}
 use Rattle.text_scan.proofs.LineOrders.{AreLines-parts, AreLines-inner, is_line-words}
 use Rattle.text_scan.proofs.NumberTexts.{number_word, decimal_number}
-use Rattle.matrix_text.specs.declared.fault.MatrixFault.{MatrixFault}
-use Rattle.matrix_text.specs.declared.fault.MatrixFault.TheVariants.{Syntax, TooLarge}
-use Rattle.matrix_text.specs.MatrixFaults.{Heading, is_heading, heading_of, is_too_large, heading_at, is_end, rows_at, last_at, grid_at, NamedGrid, matrix_at}
+use Rattle.matrix_text.specs.MatrixFaults.{Heading, is_heading, heading_of, is_too_large, heading_at, rows_at, last_at, grid_at, NamedGrid, matrix_at}
 use Rattle.matrix_text.specs.MatrixLines.{row_lines, grid_lines, matrix_lines, size_limit, SpellsMatrix, SpellsRows}
 use Rattle.matrix_text.proofs.MatrixRows.{inner_read, rows-count, rows_take, rows_again}
 
@@ -45,11 +44,11 @@ heading_passed : (room : ℕ) (line : Line) (h : Heading) → heading_at room li
 unfolding heading_at
 heading_passed room line h e =
     let heading = heading_of line.words in
-    let syntax : Test MatrixFault = record { holds = not (is_heading line.words); fault = Syntax line.number } in
-    let large : Test MatrixFault = record { holds = is_too_large room heading.rows heading.cols; fault = TooLarge line.number } in
+    let syntax : Test Fault = record { holds = not (is_heading line.words); fault = Syntax on line.number } in
+    let large : Test Fault = record { holds = is_too_large room heading.rows heading.cols; fault = TooLarge on line.number } in
     let first = passed syntax (large ∷ []) heading h e in
     let second = passed large [] heading h first.1 in
-    let says = same_ok {F = MatrixFault} heading h second.1 in
+    let says = same_ok {F = Fault} heading h second.1 in
     record { form = not-false _ first.0; size = subst (λ (g : Heading). is_too_large room g.rows g.cols ≡ false) says second.0; says = says }
 
 -- how large it is
@@ -118,9 +117,9 @@ pub last_takes : (end : ℕ) (lines behind : List Line) → last_at end lines �
 unfolding last_at
 last_takes end [] behind e = absurd cc
 last_takes end (line ∷ lines) behind e =
-    let test : Test MatrixFault = record { holds = not (is_end line.words); fault = Syntax line.number } in
+    let test : Test Fault = record { holds = not (is_end line.words); fault = Syntax on line.number } in
     let ends = passed test [] lines behind e in
-    (line, ap (λ (ls : List Line). line ∷ ls) (same_ok {F = MatrixFault} lines behind ends.1), end_word line.words (not-false _ ends.0))
+    (line, ap (λ (ls : List Line). line ∷ ls) (same_ok {F = Fault} lines behind ends.1), end_word line.words (not-false _ ends.0))
 
 pub last_again : (end : ℕ) (line : Line) (behind : List Line) → line.words ≡ codes "end" ∷ [] → last_at end (line ∷ behind) ≡ Ok behind
 unfolding last_at
@@ -160,7 +159,7 @@ grid_steps end m rows cols lines g rest e =
     let read = bind_ok (rows_at end m cols (if cols == 0 then 0 else rows) lines) (λ entries. last_at end entries.1 >>= λ behind. Ok (made rows cols entries.0, behind)) answer e in
     let last = bind_ok (last_at end read.0.1) (λ behind. Ok (made rows cols read.0.0, behind)) answer read.2 in
     let found : Grid × List Line = (made rows cols read.0.0, last.0) in
-    let same = same_ok {F = MatrixFault} found answer last.2 in
+    let same = same_ok {F = Fault} found answer last.2 in
     subst (λ (p : Grid × List Line). GridSteps end m rows cols lines p.0 p.1) same
     (record { behind_rows = read.0.1; entries = read.1; last = last.1; made_of = refl })
 
@@ -260,7 +259,7 @@ matrix_steps end m room (line ∷ lines) name g rest e =
     let h = heading.0 in
     let grid = bind_ok (grid_at end m h.rows h.cols lines) (λ grid. Ok (record { name = h.name; grid = grid.0 }, grid.1)) answer heading.2 in
     let found : NamedGrid × List Line = (record { name = h.name; grid = grid.0.0 }, grid.0.1) in
-    let same = same_ok {F = MatrixFault} found answer grid.2 in
+    let same = same_ok {F = Fault} found answer grid.2 in
     subst (λ (p : NamedGrid × List Line). MatrixSteps end m room (line ∷ lines) p.0.name p.0.grid p.1) same
     (record { first = line; behind_first = lines; rows = h.rows; cols = h.cols; lines_are = refl; heading = heading.1; grid = grid.1 })
 

@@ -8,7 +8,7 @@ use Rattle.std.proofs.lemmas.Bool.{and_parts, and_from, eqb-false}
 use Rattle.std.proofs.lemmas.Grind.{flat_map-append}
 use Rattle.std.proofs.lemmas.List.Elements.{All-nil, All-cons, All-append}
 use Rattle.residue_sums.specs.Grids.{Grid, IsFull}
-use Rattle.byte_texts.specs.MatrixTexts as texts
+use Rattle.matrix_text.specs.MatrixTexts as texts
 use Rattle.text_scan.specs.declared.token.TokenKind.{TokenKind}
 use Rattle.text_scan.specs.declared.token.TokenKind.TheVariants.{Name, Number, Sign}
 use Rattle.text_scan.specs.NormalTexts.{line_text, lines_text, is_line}
@@ -35,16 +35,16 @@ before_name name is = bytes_eq-kinds name (codes "'") (name_is_no_sign _ (and_pa
 
 -- ---- rows
 
-row_text : (xs : List ℕ) → texts.row_line xs ≡ line_text (map decimal xs)
+row_text : (xs : List ℕ) → texts.row_text xs ≡ line_text (map decimal xs)
 row_text [] = refl
 row_text (x ∷ []) = refl
 row_text (x ∷ y ∷ xs) = rw (before_number y) (ap (λ (text : List ℕ). decimal x ++ codes " " ++ text) (row_text (y ∷ xs)))
 
-rows_text : (rows cols : ℕ) (xs : List ℕ) → texts.row_lines rows cols xs ≡ lines_text (row_lines rows cols xs)
+rows_text : (rows cols : ℕ) (xs : List ℕ) → texts.row_texts rows cols xs ≡ lines_text (row_lines rows cols xs)
 rows_text zero cols xs = refl
-rows_text (suc rows) cols xs = ap (λ (text : List ℕ). text ++ texts.row_lines rows cols (drop cols xs)) (row_text (take cols xs)) ∙ ap (λ (text : List ℕ). line_text (map decimal (take cols xs)) ++ text) (rows_text rows cols (drop cols xs))
+rows_text (suc rows) cols xs = ap (λ (text : List ℕ). text ++ texts.row_texts rows cols (drop cols xs)) (row_text (take cols xs)) ∙ ap (λ (text : List ℕ). line_text (map decimal (take cols xs)) ++ text) (rows_text rows cols (drop cols xs))
 
-some_rows_text : (b : Bool) (rows cols : ℕ) (xs : List ℕ) → cond b [] (texts.row_lines rows cols xs) ≡ lines_text (cond b [] (row_lines rows cols xs))
+some_rows_text : (b : Bool) (rows cols : ℕ) (xs : List ℕ) → cond b [] (texts.row_texts rows cols xs) ≡ lines_text (cond b [] (row_lines rows cols xs))
 some_rows_text true rows cols xs = refl
 some_rows_text false rows cols xs = rows_text rows cols xs
 
@@ -58,7 +58,7 @@ pub matrix_text-lines : (name : List ℕ) (g : Grid) → IsTrue (is_name name) �
 matrix_text-lines name g is =
     let heading = line_text (codes "matrix" ∷ name ∷ decimal g.rows ∷ decimal g.cols ∷ []) in
     let rows : List (List (List ℕ)) = if g.cols == 0 then [] else row_lines g.rows g.cols g.entries in
-    let printed : List ℕ = if g.cols == 0 then [] else texts.row_lines g.rows g.cols g.entries in
+    let printed : List ℕ = if g.cols == 0 then [] else texts.row_texts g.rows g.cols g.entries in
     ap (λ (text : List ℕ). text ++ printed ++ codes "end\n") (sym (heading_text name g.rows g.cols is))
     ∙ ap (λ (text : List ℕ). heading ++ text ++ codes "end\n") (some_rows_text (g.cols == 0) g.rows g.cols g.entries)
     ∙ append_assoc heading (lines_text rows) (codes "end\n")

@@ -2,7 +2,7 @@
 use Rattle.std.proofs.Common.{◌≡◌, ℕ, ◌*◌, ◌≤◌, List, [], Ok, sym, ◌∙◌, subst, append-nil}
 use Rattle.std.specs.Prelude.{IsTrue}
 use Rattle.residue_sums.specs.Grids.{AreResidues, Grid, IsFull}
-use Rattle.byte_texts.specs.MatrixTexts as texts
+use Rattle.matrix_text.specs.MatrixTexts as texts
 use Rattle.text_scan.specs.declared.token.Token.{Token}
 use Rattle.text_scan.specs.Lines.{lines_of}
 use Rattle.text_scan.specs.NormalTexts.{numbered_lines}

@@ -2,12 +2,12 @@
 use Rattle.std.proofs.Common.{◌≡◌, ℕ, suc, ◌+◌, ◌-◌, ◌<◌, ◌≤◌, List, [], ◌++◌, Result, Ok, Err, Option, Some, None, refl, sym, ap, ◌∙◌, append_assoc, append-nil, arith}
 use Rattle.byte_texts.specs.Reading.{◌>>=◌, EndsWith}
 use Rattle.byte_texts.proofs.Binding.{same_ok}
+use Rattle.text_scan.specs.Faults.{Fault}
 use Rattle.text_scan.specs.Lines.{Line}
-use Rattle.matrix_text.specs.declared.fault.MatrixFault.{MatrixFault}
 use Rattle.matrix_text.specs.MatrixFaults.{with_entries, next_row_at, rows_at}
 
 abbrev Rows : Type 0
-Rows = Result (List ℕ × List Line) MatrixFault
+Rows = Result (List ℕ × List Line) Fault
 
 row_before : (found row : List ℕ) (read : Rows) → with_entries found (read >>= λ others. Ok (row ++ others.0, others.1)) ≡ with_entries (found ++ row) read
 row_before found row (Ok x) = ap (λ (xs : List ℕ). Ok (xs, x.1)) (sym (append_assoc found row x.0))
@@ -17,11 +17,11 @@ row_before found row (Err fault) = refl
 row_read : (found new : List ℕ) (behind : List Line) (row : Rows) (read : List Line → Rows) → with_entries found row ≡ Ok (new, behind)
     → with_entries found (row >>= λ first. read first.1 >>= λ others. Ok (first.0 ++ others.0, others.1)) ≡ with_entries new (read behind)
 row_read found new behind (Ok row) read e =
-    let same = same_ok {F = MatrixFault} (found ++ row.0, row.1) (new, behind) e in
+    let same = same_ok {F = Fault} (found ++ row.0, row.1) (new, behind) e in
     row_before found row.0 (read row.1) ∙ ap (λ (p : List ℕ × List Line). with_entries p.0 (read p.1)) same
 row_read found new behind (Err fault) read e = absurd cc
 
-row_refused : (found : List ℕ) (fault : MatrixFault) (row : Rows) (read : List Line → Rows) → with_entries found row ≡ Err fault
+row_refused : (found : List ℕ) (fault : Fault) (row : Rows) (read : List Line → Rows) → with_entries found row ≡ Err fault
     → with_entries found (row >>= λ first. read first.1 >>= λ others. Ok (first.0 ++ others.0, others.1)) ≡ Err fault
 row_refused found fault (Ok row) read e = absurd cc
 row_refused found fault (Err f) read e = e
@@ -45,7 +45,7 @@ module _ (end m cols count i : ℕ) (found : List ℕ) (lines : List Line) (all 
       let one : with_entries found (rows_at end m cols (count - i) lines) ≡ with_entries new (rows_at end m cols (count - (i + 1)) behind) = rw k (row_read found new behind (next_row_at end m cols lines) (rows_at end m cols (count - (i + 1))) read) in
       sym one ∙ so_far
 
-  pub ends : (fault : Option MatrixFault) → i < count → EndsWith fault (with_entries found (next_row_at end m cols lines)) → EndsWith fault all
+  pub ends : (fault : Option Fault) → i < count → EndsWith fault (with_entries found (next_row_at end m cols lines)) → EndsWith fault all
   unfolding rows_at
   ends None inside refused = tt
   ends (Some fault) inside refused =

@@ -4,27 +4,26 @@ use Rattle.std.proofs.Common.{◌≡◌, ℕ, List, [], ◌∷◌, Result, Ok, E
 use Rattle.std.specs.Fmt.{digits}
 use Rattle.residue_sums.specs.Grids.{Grid}
 use Rattle.text_scan.specs.declared.token.Token.{Token}
-use Rattle.text_scan.specs.declared.token.ScanFault.{ScanFault}
+use Rattle.text_scan.specs.FaultKinds.{Syntax, TooLarge, RowLength, EntryRange}
+use Rattle.text_scan.specs.Faults.{Fault, ◌on◌}
 use Rattle.text_scan.specs.Lines.{Line, end_line_of, lines_of}
-use Rattle.text_scan.specs.Tokens.{front_of, tokens_from, tokens_of}
-use Rattle.matrix_text.specs.declared.fault.MatrixFault.{MatrixFault}
-use Rattle.matrix_text.specs.declared.fault.MatrixFault.TheVariants.{Memory, Syntax, TooLarge, RowLength, EntryRange}
+use Rattle.text_scan.specs.Tokens.{BadByte, front_of, scanned, tokens_from, tokens_of}
 use Rattle.matrix_text.specs.MatrixFaults.{NamedGrid, heading_at, row_at, next_row_at, rows_at, last_at, matrix_at}
 use Rattle.matrix_text.specs.MatrixLines.{matrix_lines}
 
 -- what the lines of a text say
-read : List ℕ → Result (NamedGrid × List Line) MatrixFault
-read text = go (tokens_of 1 text)
+read : List ℕ → Result (NamedGrid × List Line) Fault
+read text = go (scanned (tokens_of 1 text))
   where
-    go : Result (List Token) ScanFault → Result (NamedGrid × List Line) MatrixFault
-    go (Err fault) = Err Memory
+    go : Result (List Token) Fault → Result (NamedGrid × List Line) Fault
+    go (Err fault) = Err fault
     go (Ok tokens) = matrix_at (end_line_of 1 text) 7 6 (lines_of text tokens)
 
 -- the words of its lines
 words : List ℕ → List (List (List ℕ))
 words text = go (tokens_of 1 text)
   where
-    go : Result (List Token) ScanFault → List (List (List ℕ))
+    go : Result (List Token) BadByte → List (List (List ℕ))
     go (Err fault) = []
     go (Ok tokens) = map (λ line. line.words) (lines_of text tokens)
 
@@ -65,54 +64,54 @@ no_rows_has_lines = refl
 
 -- ---- faults
 
-row_too_short : read (codes "matrix P 1 2\n3\n") ≡ Err (RowLength 2)
+row_too_short : read (codes "matrix P 1 2\n3\n") ≡ Err (RowLength on 2)
 unfolding read front_of tokens_from heading_at row_at next_row_at rows_at last_at matrix_at
 row_too_short = refl
 
-row_too_short_at_the_end : read (codes "matrix P 1 2\n3") ≡ Err (Syntax 2)
+row_too_short_at_the_end : read (codes "matrix P 1 2\n3") ≡ Err (Syntax on 2)
 unfolding read front_of tokens_from heading_at row_at next_row_at rows_at last_at matrix_at
 row_too_short_at_the_end = refl
 
-end_for_a_row : read (codes "matrix P 1 2\nend\n") ≡ Err (RowLength 2)
+end_for_a_row : read (codes "matrix P 1 2\nend\n") ≡ Err (RowLength on 2)
 unfolding read front_of tokens_from heading_at row_at next_row_at rows_at last_at matrix_at
 end_for_a_row = refl
 
-end_for_a_row_at_the_end : read (codes "matrix P 1 2\nend") ≡ Err (Syntax 2)
+end_for_a_row_at_the_end : read (codes "matrix P 1 2\nend") ≡ Err (Syntax on 2)
 unfolding read front_of tokens_from heading_at row_at next_row_at rows_at last_at matrix_at
 end_for_a_row_at_the_end = refl
 
-two_ends_for_a_row : read (codes "matrix P 1 2\nend end\n") ≡ Err (Syntax 2)
+two_ends_for_a_row : read (codes "matrix P 1 2\nend end\n") ≡ Err (Syntax on 2)
 unfolding read front_of tokens_from heading_at row_at next_row_at rows_at last_at matrix_at
 two_ends_for_a_row = refl
 
-entry_is_the_modulus : read (codes "matrix P 1 1\n7\nend\n") ≡ Err (EntryRange 2)
+entry_is_the_modulus : read (codes "matrix P 1 1\n7\nend\n") ≡ Err (EntryRange on 2)
 unfolding read front_of tokens_from heading_at row_at next_row_at rows_at last_at matrix_at
 entry_is_the_modulus = refl
 
-length_before_range : read (codes "matrix P 1 1\n7 7\nend\n") ≡ Err (RowLength 2)
+length_before_range : read (codes "matrix P 1 1\n7 7\nend\n") ≡ Err (RowLength on 2)
 unfolding read front_of tokens_from heading_at row_at next_row_at rows_at last_at matrix_at
 length_before_range = refl
 
-leading_zero : read (codes "matrix P 1 1\n03\nend\n") ≡ Err (Syntax 2)
+leading_zero : read (codes "matrix P 1 1\n03\nend\n") ≡ Err (Syntax on 2)
 unfolding read front_of tokens_from heading_at row_at next_row_at rows_at last_at matrix_at
 leading_zero = refl
 
-entry_of_many_digits : read (codes "matrix P 1 1\n100000000000000000000000000000\nend\n") ≡ Err (EntryRange 2)
+entry_of_many_digits : read (codes "matrix P 1 1\n100000000000000000000000000000\nend\n") ≡ Err (EntryRange on 2)
 unfolding read front_of tokens_from heading_at row_at next_row_at rows_at last_at matrix_at
 entry_of_many_digits = refl
 
-too_many_columns : read (codes "matrix P 1 1025\n") ≡ Err (TooLarge 1)
+too_many_columns : read (codes "matrix P 1 1025\n") ≡ Err (TooLarge on 1)
 unfolding read front_of tokens_from heading_at row_at next_row_at rows_at last_at matrix_at
 too_many_columns = refl
 
-no_room : read (codes "matrix P 1 7\n") ≡ Err (TooLarge 1)
+no_room : read (codes "matrix P 1 7\n") ≡ Err (TooLarge on 1)
 unfolding read front_of tokens_from heading_at row_at next_row_at rows_at last_at matrix_at
 no_room = refl
 
-row_for_the_end : read (codes "matrix P 1 1\n3\n3\nend\n") ≡ Err (Syntax 3)
+row_for_the_end : read (codes "matrix P 1 1\n3\n3\nend\n") ≡ Err (Syntax on 3)
 unfolding read front_of tokens_from heading_at row_at next_row_at rows_at last_at matrix_at
 row_for_the_end = refl
 
-text_ends : read (codes "matrix P 1 1\n3\n") ≡ Err (Syntax 3)
+text_ends : read (codes "matrix P 1 1\n3\n") ≡ Err (Syntax on 3)
 unfolding read front_of tokens_from heading_at row_at next_row_at rows_at last_at matrix_at
 text_ends = refl

@@ -3,8 +3,8 @@ use Rattle.std.proofs.Common.{◌≡◌, ℕ, List, [], ◌∷◌, ◌++◌, app
 use Rattle.std.specs.Prelude.{codes}
 use Rattle.std.specs.Fmt.{decimal}
 use Rattle.residue_sums.specs.Grids.{Grid, IsFull}
-use Rattle.byte_texts.specs.MatrixTexts.{entry_lines, matrix_text}
-use Rattle.byte_texts.proofs.MatrixLines.{matrix_text-entry_lines}
+use Rattle.matrix_text.specs.MatrixTexts.{entry_lines, matrix_text}
+use Rattle.matrix_text.proofs.EntryTexts.{matrix_text-entry_lines}
 
 pub written_matrix : (name o0 o1 o2 o3 o4 o5 o6 o7 : List ℕ) (g : Grid)
     → o1 ≡ o0 ++ codes "matrix " → o2 ≡ o1 ++ name → o3 ≡ o2 ++ 32 ∷ [] → o4 ≡ o3 ++ decimal g.rows ++ 32 ∷ [] → o5 ≡ o4 ++ decimal g.cols ++ 10 ∷ [] → o6 ≡ o5 ++ entry_lines g.cols g.entries → o7 ≡ o6 ++ codes "end\n"

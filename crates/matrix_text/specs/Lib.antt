@@ -1,3 +1,3 @@
 pub mod MatrixFaults
 pub mod MatrixLines
-pub mod TokenWords
+pub mod MatrixTexts

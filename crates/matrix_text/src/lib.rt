@@ -1,9 +1,9 @@
 //! Matrices as text: a line `matrix NAME ROWS COLS`, a line for each row, and `end`.
 //!
-//! `read_matrix` reads one from the tokens of a text, or names the first fault and its line. Which lines
-//! spell a matrix is one definition (`specs/MatrixLines`), which fault lines have is another
-//! (`specs/MatrixFaults`), and the laws join the two. `read_rows` reads what is behind the first line, for a
-//! block that another word begins. `write_matrix` prints the one normal text.
+//! `next_matrix` reads one from the lines of a text, or names the first fault and its line; `read_matrix` does so
+//! from a token on. Which lines spell a matrix is one definition (`specs/MatrixLines`), which fault lines have is
+//! another (`specs/MatrixFaults`), and the laws join the two. `next_rows` reads what is behind the first line, for
+//! a block that another word begins. `write_matrix` prints the one normal text (`specs/MatrixTexts`).
 #![tactic(auto)]
 
 mod fault;
@@ -14,5 +14,5 @@ mod tests;
 mod writing;
 
 pub use fault::MatrixFault;
-pub use reading::{is_heading, is_sized_line, read_matrix, read_rows};
+pub use reading::{is_heading, is_sized_line, next_matrix, next_rows, read_matrix};
 pub use writing::write_matrix;

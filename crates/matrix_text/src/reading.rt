@@ -1,21 +1,21 @@
-ghost use Rattle.std.specs.Prelude.{◌≡◌, ◌+◌, ◌*◌, ◌<◌, ◌≤◌, length, drop, map, Ok, IfOk, IsTrue, MatchOption, false, if◌then◌else◌, ◌==◌};
+//! Reading matrices, line by line.
+
+ghost use Rattle.std.specs.Prelude.{◌≡◌, ◌*◌, ◌<◌, ◌≤◌, length, drop, Ok, IfOk, IsTrue, MatchOption, false, if◌then◌else◌, ◌==◌};
 ghost use Rattle.std.specs.List.{list_all};
 ghost use Rattle.byte_texts.specs.Reading.{Gives};
-ghost use Rattle.text_scan.specs.Ends.{HasEnd};
-ghost use Rattle.text_scan.specs.Lines.{end_line_of, lines_of};
-ghost use Rattle.text_scan.specs.Scanned.{AreTokens};
+ghost use Rattle.text_scan.specs.FaultKinds.{EntryRange};
+ghost use Rattle.text_scan.specs.Faults.{◌on◌};
+ghost use Rattle.text_scan.specs.Lines.{end_line_of, lines_of, nth_word};
 ghost use Rattle.text_scan.specs.Tokens.{tokens_of};
-ghost use Rattle.text_scan.specs.Words.{word, is_word, is_number, number_value};
-ghost use Rattle.matrix_text.specs.declared.fault.MatrixFault.TheVariants.{EntryRange};
-ghost use Rattle.matrix_text.specs.MatrixFaults.{text_fault, is_heading, is_sized_line, is_too_large, heading_at, is_end, row_at, numbers_behind, with_row, with_entries, next_row_at, rows_at, last_at, grid_at, matrix_at};
+ghost use Rattle.text_scan.specs.Words.{is_number, number_value};
+ghost use Rattle.matrix_text.specs.MatrixFaults.{grid_at, heading_at, heading_of, is_heading, is_sized_line, is_too_large, last_at, matrix_at, matrix_fault, next_row_at, numbers_behind, row_at, rows_at, with_entries, with_row};
 ghost use Rattle.matrix_text.specs.MatrixLines.{SpellsMatrix, SpellsRows, size_limit};
-ghost use Rattle.matrix_text.specs.TokenWords.{HaveWords};
 
 use crate::fault::MatrixFault;
 use field_word::Modulus;
 use matrix_core::Matrix;
 use std::alloc::Global;
-use text_scan::{Name, Token, TokenLine, due_line, inner_line, number};
+use text_scan::{Lines, Name, TextLine, Token, is_name, is_number};
 
 /// How many rows and columns a matrix may have.
 const SIZE_LIMIT: u64 = 1024;
@@ -35,58 +35,49 @@ struct Shape {
     cols: u32,
 }
 
-/// Whether the tokens are `WORD NAME ROWS COLS`, the first line of a matrix that stands under this word.
-pub fn is_sized_line(bytes: &[u8], first_word: &[u8], tokens: &[Token]) -> bool
-    requires { HaveWords bytes.now tokens.now }
-    ensures value { result ≡ is_sized_line first_word.now (map (word bytes.now) tokens.now) }
-    ensures four { IsTrue result → length tokens.now ≡ 4 }
+// ---- the first line
+
+/// Whether the line is `WORD NAME ROWS COLS`, the first line of a matrix that stands under this word.
+#[tactic(auto, using(crate::proofs::WordLists::sized_line_is))]
+pub fn is_sized_line(first_word: &[u8], line: &TextLine<'_>) -> bool
+    ensures { result ≡ is_sized_line first_word.now line.now.words }
 {
-    match tokens {
-        [first, name, rows, cols] => {
-            first.is_text(bytes, first_word)
-                && name.is_name(bytes)
-                && rows.is_number(bytes)
-                && cols.is_number(bytes)
-        }
-        _ => false,
-    }
+    line.len() == 4
+        && line.is_text(0, first_word)
+        && is_name(line.word(1))
+        && is_number(line.word(2))
+        && is_number(line.word(3))
 }
 
-/// Whether the tokens are `matrix NAME ROWS COLS`.
-pub fn is_heading(bytes: &[u8], tokens: &[Token]) -> bool
-    requires { AreTokens 1 bytes.now tokens.now }
-    ensures value { result ≡ is_heading (map (word bytes.now) tokens.now) }
-    ensures four { IsTrue result → length tokens.now ≡ 4 }
+/// Whether the line is `matrix NAME ROWS COLS`.
+pub fn is_heading(line: &TextLine<'_>) -> bool
+    ensures { result ≡ is_heading line.now.words }
 {
-    is_sized_line(bytes, b"matrix", tokens)
+    is_sized_line(b"matrix", line)
 }
 
-/// The number of rows or columns that a token is, unless it passes the limit.
-fn size(bytes: &[u8], token: Token) -> Option<u32>
-    requires within { token.start + token.len ≤ length bytes.now }
-    requires word { IsTrue (is_word (word bytes.now token)) }
-    requires number { IsTrue (is_number (word bytes.now token)) }
-    ensures { MatchOption result (size_limit < number_value (word bytes.now token)) (λ n. (n ≡ number_value (word bytes.now token)) × (n ≤ size_limit)) }
+/// The number of rows or columns that a word is, unless it passes the limit.
+fn size(line: &TextLine<'_>, at: usize) -> Option<u32>
+    requires { IsTrue (is_number (nth_word line.now.words at)) }
+    ensures { MatchOption result (size_limit < number_value (nth_word line.now.words at))
+        (λ n. (n ≡ number_value (nth_word line.now.words at)) × (n ≤ size_limit)) }
 {
-    match number(bytes, token) {
+    match line.number_at(at) {
         Some(n) if n <= SIZE_LIMIT => Some(n as u32),
         _ => None,
     }
 }
 
-/// The shape that two numbers say, unless they pass the limit, or the entries the room.
-fn shape_of(bytes: &[u8], rows: Token, cols: Token, room: u32) -> Option<Shape>
-    requires rows_within { rows.start + rows.len ≤ length bytes.now }
-    requires rows_word { IsTrue (is_word (word bytes.now rows)) }
-    requires rows_number { IsTrue (is_number (word bytes.now rows)) }
-    requires cols_within { cols.start + cols.len ≤ length bytes.now }
-    requires cols_word { IsTrue (is_word (word bytes.now cols)) }
-    requires cols_number { IsTrue (is_number (word bytes.now cols)) }
-    ensures { MatchOption result (IsTrue (is_too_large room (number_value (word bytes.now rows)) (number_value (word bytes.now cols))))
-        (λ shape. (is_too_large room shape.rows shape.cols ≡ false) × (shape.rows ≡ number_value (word bytes.now rows)) × (shape.cols ≡ number_value (word bytes.now cols))) }
+/// The shape that a first line says, unless its numbers pass the limit, or the entries the room.
+fn shape_of(line: &TextLine<'_>, room: u32) -> Option<Shape>
+    requires { IsTrue (is_heading line.now.words) }
+    ensures { let heading = heading_of line.now.words in MatchOption result
+        (IsTrue (is_too_large room heading.rows heading.cols))
+        (λ shape. (is_too_large room heading.rows heading.cols ≡ false)
+        × (shape.rows ≡ heading.rows) × (shape.cols ≡ heading.cols)) }
 {
-    let rows = size(bytes, rows)?;
-    let cols = size(bytes, cols)?;
+    let rows = size(line, 2)?;
+    let cols = size(line, 3)?;
     if rows * cols <= room {
         Some(Shape { rows, cols })
     } else {
@@ -94,80 +85,52 @@ fn shape_of(bytes: &[u8], rows: Token, cols: Token, room: u32) -> Option<Shape>
     }
 }
 
-/// What the first line of a matrix says.
+/// Reads the first line of a matrix.
 #[tactic(auto, unfolding(crate::specs::MatrixFaults::heading_at))]
-fn first_line(
-    alloc: Global,
-    bytes: &[u8],
-    room: u32,
-    line: TokenLine<'_>,
-) -> Result<Heading, MatrixFault>
-    requires { AreTokens 1 bytes.now line.tokens.now }
-    ensures { Gives text_fault (λ heading. record { name = heading.name; rows = heading.rows; cols = heading.cols })
-        result (heading_at room (record { number = line.entry.number; words = map (word bytes.now) line.entry.tokens.now })) }
+fn read_heading(alloc: Global, room: u32, line: &TextLine<'_>) -> Result<Heading, MatrixFault>
+    ensures { Gives matrix_fault
+        (λ heading. record { name = heading.name; rows = heading.rows; cols = heading.cols })
+        result (heading_at room line.now) }
 {
-    match line.tokens {
-        [_, name, rows, cols] if is_heading(bytes, line.tokens) => {
-            match shape_of(bytes, *rows, *cols, room) {
-                Some(Shape { rows, cols }) => {
-                    let name = name.name(alloc, bytes)?;
-                    Ok(Heading { name, rows, cols })
-                }
-                None => Err(MatrixFault::TooLarge { line: line.number }),
-            }
+    let number = line.number();
+    if !is_heading(line) {
+        return Err(MatrixFault::Syntax { line: number });
+    }
+    match shape_of(line, room) {
+        Some(Shape { rows, cols }) => {
+            let name = line.name(alloc, 1)?;
+            Ok(Heading { name, rows, cols })
         }
-        _ => Err(MatrixFault::Syntax { line: line.number }),
+        None => Err(MatrixFault::TooLarge { line: number }),
     }
 }
 
-/// Whether the tokens are the word `end` alone.
-fn is_end_word(bytes: &[u8], tokens: &[Token]) -> bool
-    requires { HaveWords bytes.now tokens.now }
-    ensures { result ≡ is_end (map (word bytes.now) tokens.now) }
-{
-    match tokens {
-        [token] => token.is_text(bytes, b"end"),
-        _ => false,
-    }
-}
+// ---- rows
 
-/// Whether each token may stand as a number.
-fn are_numbers(bytes: &[u8], tokens: &[Token]) -> bool
-    requires { HaveWords bytes.now tokens.now }
-    ensures { result ≡ list_all (λ t. is_number (word bytes.now t)) tokens.now }
+/// The number that a word is, if it is below m.
+fn entry(line: &TextLine<'_>, at: usize, m: u64) -> Option<u64>
+    requires { IsTrue (is_number (nth_word line.now.words at)) }
+    ensures { MatchOption result (m ≤ number_value (nth_word line.now.words at))
+        (λ n. (n ≡ number_value (nth_word line.now.words at)) × (n < m)) }
 {
-    tokens.iter().all(|t| t.is_number(bytes))
-}
-
-/// The number that a token is, if it is below m.
-fn entry(bytes: &[u8], m: u64, token: Token) -> Option<u64>
-    requires within { token.start + token.len ≤ length bytes.now }
-    requires word { IsTrue (is_word (word bytes.now token)) }
-    requires number { IsTrue (is_number (word bytes.now token)) }
-    ensures { MatchOption result (m ≤ number_value (word bytes.now token)) (λ n. (n ≡ number_value (word bytes.now token)) × (n < m)) }
-{
-    match number(bytes, token) {
+    match line.number_at(at) {
         Some(n) if n < m => Some(n),
         _ => None,
     }
 }
 
 /// Appends the numbers of a row.
-fn put_row(
-    bytes: &[u8],
-    m: u64,
-    line: TokenLine<'_>,
-    entries: &mut Vec<u64>,
-) -> Result<(), MatrixFault>
-    requires words { HaveWords bytes.now line.tokens.now }
-    requires numbers { IsTrue (list_all is_number (map (word bytes.now) line.tokens.now)) }
-    ensures { Gives text_fault (λ done. entries.new.items)
-        result (numbers_behind m (EntryRange line.entry.number) entries.old.items (map (word bytes.now) line.entry.tokens.now)) }
+fn put_row(line: &TextLine<'_>, m: u64, entries: &mut Vec<u64>) -> Result<(), MatrixFault>
+    requires { IsTrue (list_all is_number line.now.words) }
+    ensures { Gives matrix_fault (λ done. entries.new.items) result
+        (numbers_behind m (EntryRange on line.now.number) entries.old.items line.now.words) }
 {
-    for token in line.tokens {
-        match entry(bytes, m, *token) {
+    for i in 0..line.len() {
+        match entry(line, i, m) {
             Some(x) => entries.push(x)?,
-            None => return Err(MatrixFault::EntryRange { line: line.number }),
+            None => return Err(MatrixFault::EntryRange {
+                line: line.number(),
+            }),
         }
     }
     Ok(())
@@ -175,91 +138,74 @@ fn put_row(
 
 /// Appends the numbers of the row that a line is.
 #[tactic(auto, using(crate::proofs::RowNumbers::row_tests))]
-fn row(
-    bytes: &[u8],
+fn row(line: &TextLine<'_>, m: u64, cols: u32, entries: &mut Vec<u64>) -> Result<(), MatrixFault>
+    ensures { Gives matrix_fault (λ done. entries.new.items) result
+        (with_row entries.old.items (row_at m cols line.now)) }
+{
+    let number = line.number();
+    if line.is_end() {
+        return Err(MatrixFault::RowLength { line: number });
+    }
+    if !line.behind(0).are_numbers() {
+        return Err(MatrixFault::Syntax { line: number });
+    }
+    if line.len() != cols as usize {
+        return Err(MatrixFault::RowLength { line: number });
+    }
+    put_row(line, m, entries)
+}
+
+/// Appends the numbers of the row that is due.
+#[tactic(auto, unfolding(crate::specs::MatrixFaults::next_row_at))]
+fn next_row(
+    lines: &mut Lines<'_>,
     m: u64,
     cols: u32,
-    line: TokenLine<'_>,
     entries: &mut Vec<u64>,
 ) -> Result<(), MatrixFault>
-    requires { HaveWords bytes.now line.tokens.now }
-    ensures { Gives text_fault (λ done. entries.new.items)
-        result (with_row entries.old.items (row_at m cols (record { number = line.entry.number; words = map (word bytes.now) line.entry.tokens.now }))) }
+    ensures row { Gives matrix_fault (λ _. (entries.new.items, lines.new.lines)) result
+        (with_entries entries.old.items (next_row_at lines.old.end m cols lines.old.lines)) }
+    ensures end { lines.new.end ≡ lines.old.end }
 {
-    if is_end_word(bytes, line.tokens) {
-        return Err(MatrixFault::RowLength { line: line.number });
-    }
-    if !are_numbers(bytes, line.tokens) {
-        return Err(MatrixFault::Syntax { line: line.number });
-    }
-    if line.tokens.len() != cols as usize {
-        return Err(MatrixFault::RowLength { line: line.number });
-    }
-    put_row(bytes, m, line, entries)
+    let line = lines.inner()?;
+    row(&line, m, cols, entries)
 }
 
-/// Appends the numbers of the row that is due, and answers the tokens behind it.
-#[tactic(auto, unfolding(crate::specs::MatrixFaults::next_row_at))]
-fn next_row<'a>(
-    bytes: &[u8],
-    first: u32,
-    m: u64,
-    cols: u32,
-    tokens: &'a [Token],
-    entries: &mut Vec<u64>,
-) -> Result<&'a [Token], MatrixFault>
-    requires short { length bytes.now ≤ 67108865 }
-    requires low { first ≤ 67108865 }
-    requires scanned { AreTokens first bytes.now tokens.now }
-    ensures row { Gives text_fault (λ rest. (entries.new.items, lines_of bytes.now rest.now))
-        result (with_entries entries.old.items (next_row_at (end_line_of first bytes.now) m cols (lines_of bytes.now tokens.now))) }
-    ensures behind { IfOk result (λ rest. HasEnd tokens.now rest.now) }
-{
-    let line = inner_line(first, bytes, tokens)?;
-    row(bytes, m, cols, line, entries)?;
-    Ok(line.rest)
-}
-
-/// The entries of so many rows, and the tokens behind them.
-fn rows<'a>(
+/// The entries of so many rows.
+fn rows(
     alloc: Global,
-    bytes: &[u8],
-    first: u32,
+    lines: &mut Lines<'_>,
     m: u64,
     count: u32,
     cols: u32,
-    tokens: &'a [Token],
-) -> Result<(Vec<u64>, &'a [Token]), MatrixFault>
-    requires short { length bytes.now ≤ 67108865 }
-    requires low { first ≤ 67108865 }
-    requires scanned { AreTokens first bytes.now tokens.now }
-    ensures rows { Gives text_fault (λ x. (x.0.items, lines_of bytes.now x.1.now))
-        result (rows_at (end_line_of first bytes.now) m cols count (lines_of bytes.now tokens.now)) }
-    ensures behind { IfOk result (λ x. HasEnd tokens.now x.1.now) }
+) -> Result<Vec<u64>, MatrixFault>
+    ensures rows { Gives matrix_fault (λ entries. (entries.items, lines.new.lines)) result
+        (rows_at lines.old.end m cols count lines.old.lines) }
+    ensures end { lines.new.end ≡ lines.old.end }
 {
     let mut entries = Vec::with_capacity(alloc, count as usize * cols as usize)?;
-    let mut rest = tokens;
     for _ in 0..count {
-        rest = next_row(bytes, first, m, cols, rest, &mut entries)?;
+        next_row(lines, m, cols, &mut entries)?;
     }
-    Ok((entries, rest))
+    Ok(entries)
 }
 
-/// The tokens behind the last line of a matrix.
+// ---- the whole matrix
+
+/// Reads the last line of a matrix.
 #[tactic(auto, unfolding(crate::specs::MatrixFaults::last_at))]
-fn last_line<'a>(bytes: &[u8], first: u32, tokens: &'a [Token]) -> Result<&'a [Token], MatrixFault>
-    requires short { length bytes.now ≤ 67108865 }
-    requires low { first ≤ 67108865 }
-    requires scanned { AreTokens first bytes.now tokens.now }
-    ensures last { Gives text_fault (λ rest. lines_of bytes.now rest.now)
-        result (last_at (end_line_of first bytes.now) (lines_of bytes.now tokens.now)) }
-    ensures behind { IfOk result (λ rest. HasEnd tokens.now rest.now) }
+fn last_line(lines: &mut Lines<'_>) -> Result<(), MatrixFault>
+    ensures last { Gives matrix_fault (λ _. lines.new.lines) result
+        (last_at lines.old.end lines.old.lines) }
+    ensures end { lines.new.end ≡ lines.old.end }
 {
-    let line = due_line(first, bytes, tokens)?;
-    if !is_end_word(bytes, line.tokens) {
-        return Err(MatrixFault::Syntax { line: line.number });
+    let line = lines.due()?;
+    if !line.is_end() {
+        return Err(MatrixFault::Syntax {
+            line: line.number(),
+        });
     }
-    Ok(line.rest)
+    Ok(())
 }
 
 /// How many lines of rows a matrix has: with no columns there are none.
@@ -269,48 +215,71 @@ fn row_count(rows: u32, cols: u32) -> u32
     if cols == 0 { 0 } else { rows }
 }
 
-/// The matrix of so many rows and columns whose lines behind its first one are at the front of the tokens,
-/// and the tokens behind it.
-fn grid<'a>(
-    alloc: Global,
-    bytes: &[u8],
-    first: u32,
-    m: u64,
-    shape: Shape,
-    tokens: &'a [Token],
-) -> Result<(Matrix, &'a [Token]), MatrixFault>
-    requires short { length bytes.now ≤ 67108865 }
-    requires low { first ≤ 67108865 }
-    requires scanned { AreTokens first bytes.now tokens.now }
-    ensures grid { Gives text_fault (λ x. (x.0, lines_of bytes.now x.1.now))
-        result (grid_at (end_line_of first bytes.now) m shape.rows shape.cols (lines_of bytes.now tokens.now)) }
-    ensures behind { IfOk result (λ x. HasEnd tokens.now x.1.now) }
+/// The matrix of so many rows and columns whose lines behind its first one are the first that are left.
+fn grid(alloc: Global, lines: &mut Lines<'_>, m: u64, shape: Shape) -> Result<Matrix, MatrixFault>
+    ensures grid { Gives matrix_fault (λ x. (x, lines.new.lines)) result
+        (grid_at lines.old.end m shape.rows shape.cols lines.old.lines) }
+    ensures end { lines.new.end ≡ lines.old.end }
 {
     let Shape { rows: count, cols } = shape;
-    let (entries, rest) = rows(alloc, bytes, first, m, row_count(count, cols), cols, tokens)?;
-    let rest = last_line(bytes, first, rest)?;
-    Ok((Matrix::from_entries(count, cols, entries), rest))
+    let entries = rows(alloc, lines, m, row_count(count, cols), cols)?;
+    last_line(lines)?;
+    Ok(Matrix::from_entries(count, cols, entries))
 }
 
-/// The matrix at the front of the tokens, its name, and the tokens behind it.
+/// The matrix whose lines are the first that are left, and its name.
 #[tactic(auto, unfolding(crate::specs::MatrixFaults::matrix_at))]
-fn matrix<'a>(
+fn matrix(
     alloc: Global,
-    bytes: &[u8],
-    tokens: &'a [Token],
+    lines: &mut Lines<'_>,
     m: u64,
     room: u32,
-) -> Result<(Name, Matrix, &'a [Token]), MatrixFault>
-    requires short { length bytes.now ≤ 67108865 }
-    requires scanned { AreTokens 1 bytes.now tokens.now }
-    ensures matrix { Gives text_fault (λ x. (record { name = x.0; grid = x.1 }, lines_of bytes.now x.2.now))
-        result (matrix_at (end_line_of 1 bytes.now) m room (lines_of bytes.now tokens.now)) }
-    ensures behind { IfOk result (λ x. HasEnd tokens.now x.2.now) }
+) -> Result<(Name, Matrix), MatrixFault>
+    ensures matrix { Gives matrix_fault (λ x. (record { name = x.0; grid = x.1 }, lines.new.lines))
+        result (matrix_at lines.old.end m room lines.old.lines) }
+    ensures end { lines.new.end ≡ lines.old.end }
 {
-    let line = inner_line(1, bytes, tokens)?;
-    let Heading { name, rows, cols } = first_line(alloc, bytes, room, line)?;
-    let (matrix, rest) = grid(alloc, bytes, 1, m, Shape { rows, cols }, line.rest)?;
-    Ok((name, matrix, rest))
+    let first = lines.inner()?;
+    let Heading { name, rows, cols } = read_heading(alloc, room, &first)?;
+    let matrix = grid(alloc, lines, m, Shape { rows, cols })?;
+    Ok((name, matrix))
+}
+
+/// Reads the matrix that the first of the lines begins, and takes its lines off: its name, and the matrix with entries
+/// below `m`. `room` is how many entries it may have. Its errors are want of memory, and the first fault of the text
+/// by line, and in a line in the order of `MatrixFault`.
+pub fn next_matrix(
+    alloc: Global,
+    lines: &mut Lines<'_>,
+    m: Modulus,
+    room: u32,
+) -> Result<(Name, Matrix), MatrixFault>
+    ensures read { Gives matrix_fault (λ x. (record { name = x.0; grid = x.1 }, lines.new.lines))
+        result (matrix_at lines.old.end m room lines.old.lines) }
+    ensures found { IfOk result (λ x. SpellsMatrix m room lines.old.lines x.0 x.1 lines.new.lines) }
+    ensures end { lines.new.end ≡ lines.old.end }
+{
+    lines.are_lines();
+    matrix(alloc, lines, m.value(), room)
+}
+
+/// Reads the lines of a matrix behind its first one, which said its rows and columns, and takes them off: a line for
+/// each row, where there are columns, and `end`. Answers the matrix with entries below `m`. Its errors are want of
+/// memory, and the first fault of the text by line, and in a line in the order of `MatrixFault`.
+pub fn next_rows(
+    alloc: Global,
+    lines: &mut Lines<'_>,
+    m: Modulus,
+    rows: u32,
+    cols: u32,
+) -> Result<Matrix, MatrixFault>
+    ensures read { Gives matrix_fault (λ x. (x, lines.new.lines)) result
+        (grid_at lines.old.end m rows cols lines.old.lines) }
+    ensures found { IfOk result (λ x. SpellsRows m rows cols lines.old.lines x lines.new.lines) }
+    ensures end { lines.new.end ≡ lines.old.end }
+{
+    lines.are_lines();
+    grid(alloc, lines, m.value(), Shape { rows, cols })
 }
 
 /// Reads one matrix from token `at` on: its name, the matrix with entries below `m`, and the place of the
@@ -327,36 +296,16 @@ pub fn read_matrix(
     requires short { length bytes.now ≤ 67108865 }
     requires scanned { tokens_of 1 bytes.now ≡ Ok tokens.now.items }
     requires place { at ≤ length tokens.now.items }
-    ensures read { Gives text_fault (λ x. (record { name = x.0; grid = x.1 }, lines_of bytes.now (drop x.2 tokens.now.items)))
-        result (matrix_at (end_line_of 1 bytes.now) m room (lines_of bytes.now (drop at tokens.now.items))) }
-    ensures found { IfOk result (λ x. SpellsMatrix m room (lines_of bytes.now (drop at tokens.now.items)) x.0 x.1 (lines_of bytes.now (drop x.2 tokens.now.items))) }
+    ensures read { Gives matrix_fault
+        (λ x. (record { name = x.0; grid = x.1 }, lines_of bytes.now (drop x.2 tokens.now.items)))
+        result (matrix_at (end_line_of 1 bytes.now) m room
+        (lines_of bytes.now (drop at tokens.now.items))) }
+    ensures found { IfOk result (λ x. SpellsMatrix m room
+        (lines_of bytes.now (drop at tokens.now.items)) x.0 x.1
+        (lines_of bytes.now (drop x.2 tokens.now.items))) }
     ensures behind { IfOk result (λ x. x.2 ≤ length tokens.now.items) }
 {
-    let (name, matrix, rest) = matrix(alloc, bytes, &tokens[at..], m.value(), room)?;
-    Ok((name, matrix, tokens.len() - rest.len()))
-}
-
-/// Reads the lines of a matrix behind its first one, which said its rows and columns, from the front of the
-/// tokens: a line for each row, where there are columns, and `end`. Answers the matrix with entries below `m`
-/// and the tokens behind it. `first` is the number of the first byte's line. Its errors are want of memory, and
-/// the first fault of the text by line, and in a line in the order of `MatrixFault`.
-pub fn read_rows<'a>(
-    alloc: Global,
-    bytes: &[u8],
-    first: u32,
-    m: Modulus,
-    rows: u32,
-    cols: u32,
-    tokens: &'a [Token],
-) -> Result<(Matrix, &'a [Token]), MatrixFault>
-    requires short { length bytes.now ≤ 67108865 }
-    requires low { first ≤ 67108865 }
-    requires scanned { AreTokens first bytes.now tokens.now }
-    ensures read { Gives text_fault (λ x. (x.0, lines_of bytes.now x.1.now))
-        result (grid_at (end_line_of first bytes.now) m rows cols (lines_of bytes.now tokens.now)) }
-    ensures found { IfOk result (λ x. SpellsRows m rows cols (lines_of bytes.now tokens.now) x.0 (lines_of bytes.now x.1.now)) }
-    ensures behind { IfOk result (λ x. HasEnd tokens.now x.1.now) }
-{
-    let (matrix, rest) = grid(alloc, bytes, first, m.value(), Shape { rows, cols }, tokens)?;
-    Ok((matrix, rest))
+    let mut lines = Lines::new(1, bytes, &tokens[at..]);
+    let (name, matrix) = next_matrix(alloc, &mut lines, m, room)?;
+    Ok((name, matrix, tokens.len() - lines.word_count()))
 }

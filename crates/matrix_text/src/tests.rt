@@ -3,7 +3,7 @@ use field_word::Modulus;
 use matrix_core::Matrix;
 use std::alloc::{AllocError, Global};
 use std::test::Fail;
-use text_scan::{Name, scan};
+use text_scan::{Lines, Name, scan};
 
 /// A matrix without entries, whose name has 32 bytes.
 const LONG_NAME: &str = "matrix aaaaaaaaaabbbbbbbbbbccccccccccdd 0 0\nend\n";
@@ -143,12 +143,13 @@ fn rows_sum(alloc: Global, text: &str) -> Result<u64, MatrixFault> {
     }
     match (Modulus::new(7), scan(alloc, bytes, 5)) {
         (Some(seven), Ok(tokens)) => {
-            let (matrix, rest) = read_rows(alloc, bytes, 5, seven, 2, 2, &tokens)?;
+            let mut lines = Lines::new(5, bytes, &tokens);
+            let matrix = next_rows(alloc, &mut lines, seven, 2, 2)?;
             let sum = matrix
                 .entries()
                 .iter()
                 .fold(0, |sum: u64, x| sum.wrapping_add(*x));
-            Ok(sum.wrapping_add(100 * (rest.len() as u64 % 100)))
+            Ok(sum.wrapping_add(100 * (lines.word_count() as u64 % 100)))
         }
         _ => Err(MatrixFault::Memory),
     }

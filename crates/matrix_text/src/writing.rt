@@ -1,5 +1,5 @@
 ghost use Rattle.std.specs.Prelude.{◌≡◌, ◌∷◌, [], ◌++◌, ◌<◌, length, decimal, OnOk, OnErr};
-ghost use Rattle.byte_texts.specs.MatrixTexts.{entry_end, entry_lines, matrix_text};
+ghost use Rattle.matrix_text.specs.MatrixTexts.{entry_end, entry_lines, matrix_text};
 
 use byte_texts::put_decimal;
 use matrix_core::Matrix;

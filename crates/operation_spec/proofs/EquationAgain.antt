@@ -5,6 +5,7 @@ use Rattle.std.specs.List.{flat_map}
 use Rattle.std.specs.Str.{bytes_eq}
 use Rattle.std.proofs.lemmas.Bool.{and_right}
 use Rattle.std.proofs.lemmas.List.Elements.{All-head, All-tail}
+use Rattle.text_scan.specs.Names.{number_of}
 use Rattle.text_scan.specs.Words.{is_name}
 use Rattle.operation_spec.specs.declared.equation.Side.{Side}
 use Rattle.operation_spec.specs.declared.equation.Product.{Product}
@@ -14,7 +15,7 @@ use Rattle.operation_spec.specs.declared.operation.Form.{Form}
 use Rattle.operation_spec.specs.declared.operation.Form.TheVariants.{Assign, Left, Right, Sylvester, Lu, Ldl}
 use Rattle.operation_spec.specs.declared.operation.Operation.{Operation}
 use Rattle.operation_spec.specs.declared.operation.Term.{Term}
-use Rattle.operation_spec.specs.Equations.{Marked, LeftFront, marked, is_plain, is_factor, number_of, side_of, left_at, products_of, with_right, equation_of, side_of_factor, left_of_form, product_of_term, equation_of_operation}
+use Rattle.operation_spec.specs.Equations.{Marked, LeftFront, marked, is_plain, is_factor, side_of, left_at, products_of, with_right, equation_of, side_of_factor, left_of_form, product_of_term, equation_of_operation}
 use Rattle.operation_spec.specs.OperationLines.{nth_name, sign_word, term_words, left_words, known_names, equation_words}
 use Rattle.operation_spec.specs.ValidOperations.{factors_of_form}
 use Rattle.operation_spec.proofs.MarkedWords.{plain, marked_factor, marked_term, no_prime, marked-plain, marked-terms, no_prime-terms, no_prime-name, marked_left, marked-left}

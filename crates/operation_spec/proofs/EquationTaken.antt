@@ -2,13 +2,14 @@
 use Rattle.std.proofs.Common.{◌≡◌, ℕ, ◌<◌, Bool, true, not, ◌&&◌, List, [], ◌∷◌, ◌++◌, length, codes, map, IfSome, Option, Some, None, flat_map, refl, sym, ap, ◌∙◌, subst, arith, append_assoc}
 use Rattle.std.proofs.lemmas.Bool.{and_parts, not-true, cond_both}
 use Rattle.std.proofs.lemmas.List.Elements.{All-head}
+use Rattle.text_scan.specs.Names.{number_of}
 use Rattle.text_scan.specs.Words.{is_name}
 use Rattle.operation_spec.specs.declared.equation.Side.{Side}
 use Rattle.operation_spec.specs.declared.equation.Product.{Product}
 use Rattle.operation_spec.specs.declared.equation.Equation.{Equation}
 use Rattle.operation_spec.specs.declared.equation.LeftSide.{LeftSide}
 use Rattle.operation_spec.specs.declared.equation.LeftSide.TheVariants.{OnBoth}
-use Rattle.operation_spec.specs.Equations.{Marked, marked, is_plain, is_plus_or_minus, is_factor, number_of, side_of, Front, LeftFront, product_at, one_product, two_products, left_of_products, left_at, products_of, with_right, equation_of, sides_of_left, sides_of}
+use Rattle.operation_spec.specs.Equations.{Marked, marked, is_plain, is_plus_or_minus, is_factor, side_of, Front, LeftFront, product_at, one_product, two_products, left_of_products, left_at, products_of, with_right, equation_of, sides_of_left, sides_of}
 use Rattle.operation_spec.specs.OperationFaults.{factor_of, form_of, term_of}
 use Rattle.operation_spec.specs.OperationLines.{factor_words, sign_word, term_words, left_words}
 use Rattle.operation_spec.proofs.FoundNames.{nth_name-number_of}

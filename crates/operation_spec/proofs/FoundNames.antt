@@ -4,8 +4,7 @@ use Rattle.std.proofs.lemmas.Bool.{not-true, not-false, or_parts, both_ways}
 use Rattle.std.proofs.lemmas.List.Kept.{AllPairs-cons}
 use Rattle.std.proofs.lemmas.List.Sums.{prefix_len_passes, prefix_len_stops}
 use Rattle.std.proofs.lemmas.Slice.Eq.{bytes_eq-Decides}
-use Rattle.operation_spec.specs.Equations.{number_of}
-use Rattle.operation_spec.specs.OperationFaults.{is_among, has_twice}
+use Rattle.text_scan.specs.Names.{has_twice, is_among, number_of}
 use Rattle.operation_spec.specs.OperationLines.{nth_name}
 
 -- what a test of two texts tells

@@ -1,63 +1,42 @@
 -- Lines of known operands, one after another.
-use Rattle.std.proofs.Common.{◌≡◌, ℕ, Bool, true, false, cond, ◌==◌, List, [], ◌∷◌, ◌++◌, codes, Result, Ok, Err, Option, Some, None, refl, sym, ap, ◌∙◌}
+use Rattle.std.proofs.Common.{◌≡◌, ℕ, Bool, true, false, cond, ◌==◌, List, [], ◌∷◌, ◌++◌, codes, Result, Ok, Err, Option, refl, sym, ap, ◌∙◌}
 use Rattle.std.proofs.lemmas.Bool.{eqb-true}
 use Rattle.byte_texts.specs.Reading.{◌>>=◌, EndsWith}
-use Rattle.text_scan.specs.declared.lines.TokenLine.{TokenLine}
-use Rattle.text_scan.specs.declared.token.Token.{Token}
-use Rattle.text_scan.specs.Lines.{Line, inner_line}
-use Rattle.text_scan.specs.Scanned.{AreTokens}
-use Rattle.text_scan.proofs.TokenParts.{AreTokens-front, AreTokens-back}
-use Rattle.operation_spec.specs.declared.fault.SpecFault.{SpecFault}
-use Rattle.operation_spec.specs.declared.fault.SpecFault.TheVariants.{Syntax}
+use Rattle.byte_texts.proofs.Binding.{EndsWith-along, EndsWith-bind}
+use Rattle.text_scan.specs.FaultKinds.{Syntax}
+use Rattle.text_scan.specs.Faults.{Fault, ◌on◌}
+use Rattle.text_scan.specs.Lines.{Line, inner_line, begins_with}
 use Rattle.operation_spec.specs.declared.operation.Operand.{Operand}
-use Rattle.operation_spec.specs.OperationFaults.{Knowns, begins_with, known_at, knowns_at, or_syntax}
-use Rattle.operation_spec.specs.TokenLines.{IsLineOf}
-
--- ---- tokens of lines
-
--- both parts of a line are tokens of the text
-pub line_parts : (bytes : List ℕ) (tokens : List Token) (line : TokenLine) → AreTokens 1 bytes tokens → tokens ≡ line.tokens.now ++ line.rest.now → IsLineOf bytes tokens line
-line_parts bytes tokens line are split = record { split = split; own = AreTokens-front line.tokens.now line.rest.now split are; rest = AreTokens-back line.tokens.now line.rest.now split are }
-
--- ---- going on behind a step
-
-pub ends_first : {A B : Type 0} (fault : Option SpecFault) (r : Result A SpecFault) (f : A → Result B SpecFault) → EndsWith fault r → EndsWith fault (r >>= f)
-ends_first None r f ends = tt
-ends_first (Some fault) (Ok x) f ends = absurd cc
-ends_first (Some fault) (Err e) f ends = let same : e ≡ fault = cc in ap (λ (d : SpecFault). Err d) same
-
-pub ends_along : {A : Type 0} (fault : Option SpecFault) (r q : Result A SpecFault) → r ≡ q → EndsWith fault q → EndsWith fault r
-ends_along None r q same ends = tt
-ends_along (Some fault) r q same ends = same ∙ ends
+use Rattle.operation_spec.specs.OperationFaults.{Knowns, known_at, knowns_at}
 
 -- ---- known operands
 
 -- those from a line on
-abbrev pub knowns_from : ℕ → List (List ℕ) → Operand → List Operand → Line → List Line → Result Knowns SpecFault
+abbrev pub knowns_from : ℕ → List (List ℕ) → Operand → List Operand → Line → List Line → Result Knowns Fault
 knowns_from end dims work found line lines =
     cond (begins_with (codes "known") line.words) (known_at dims work found line >>= λ o. knowns_at end dims work (found ++ o ∷ []) lines) (Ok (record { operands = found; line = line; rest = lines }))
 
 -- they are read from the line that is due
 pub knowns_at-inner : (end : ℕ) (dims : List (List ℕ)) (work : Operand) (found : List Operand) (lines : List Line)
-    → knowns_at end dims work found lines ≡ (or_syntax (inner_line end lines) >>= λ (next : Line × List Line). knowns_from end dims work found next.0 next.1)
+    → knowns_at end dims work found lines ≡ (inner_line end lines >>= λ (next : Line × List Line). knowns_from end dims work found next.0 next.1)
 unfolding knowns_at
 knowns_at-inner end dims work found [] = refl
 knowns_at-inner end dims work found (line ∷ lines) = by_test (line.number == end) refl
   where
-    by_test : (b : Bool) → (line.number == end) ≡ b → cond b (Err (Syntax line.number)) (knowns_from end dims work found line lines)
-        ≡ (or_syntax (cond b (Err end) (Ok (line, lines))) >>= λ (next : Line × List Line). knowns_from end dims work found next.0 next.1)
-    by_test true here = ap (λ n. Err (Syntax n)) (eqb-true line.number end here)
+    by_test : (b : Bool) → (line.number == end) ≡ b → cond b (Err (Syntax on line.number)) (knowns_from end dims work found line lines)
+        ≡ (cond b (Err (Syntax on end)) (Ok (line, lines)) >>= λ (next : Line × List Line). knowns_from end dims work found next.0 next.1)
+    by_test true here = ap (λ n. Err (Syntax on n)) (eqb-true line.number end here)
     by_test false other = refl
 
 -- the line that is due was found
-pub knowns_at-line : (end : ℕ) (dims : List (List ℕ)) (work : Operand) (found : List Operand) (lines rest : List Line) (line : Line) → or_syntax (inner_line end lines) ≡ Ok (line, rest)
+pub knowns_at-line : (end : ℕ) (dims : List (List ℕ)) (work : Operand) (found : List Operand) (lines rest : List Line) (line : Line) → inner_line end lines ≡ Ok (line, rest)
     → knowns_at end dims work found lines ≡ knowns_from end dims work found line rest
 knowns_at-line end dims work found lines rest line due = knowns_at-inner end dims work found lines ∙ rw due refl
 
 -- the text ends where it is due
-pub knowns_at-fault : (end : ℕ) (dims : List (List ℕ)) (work : Operand) (found : List Operand) (lines : List Line) (fault : Option SpecFault)
-    → EndsWith fault (or_syntax (inner_line end lines)) → EndsWith fault (knowns_at end dims work found lines)
-knowns_at-fault end dims work found lines fault ends = ends_along fault _ _ (knowns_at-inner end dims work found lines) (ends_first fault (or_syntax (inner_line end lines)) _ ends)
+pub knowns_at-fault : (end : ℕ) (dims : List (List ℕ)) (work : Operand) (found : List Operand) (lines : List Line) (fault : Option Fault)
+    → EndsWith fault (inner_line end lines) → EndsWith fault (knowns_at end dims work found lines)
+knowns_at-fault end dims work found lines fault ends = EndsWith-along fault _ _ (knowns_at-inner end dims work found lines) (EndsWith-bind fault (inner_line end lines) _ ends)
 
 -- it declares an operand more
 knowns_from-more : (end : ℕ) (dims : List (List ℕ)) (work o : Operand) (found : List Operand) (line : Line) (lines : List Line) → begins_with (codes "known") line.words ≡ true → known_at dims work found line ≡ Ok o
@@ -65,12 +44,12 @@ knowns_from-more : (end : ℕ) (dims : List (List ℕ)) (work o : Operand) (foun
 knowns_from-more end dims work o found line lines known read = rw (known, read) refl
 
 -- and the line behind it was found, or the text ends there
-pub knowns_from-next : (end : ℕ) (dims : List (List ℕ)) (work o : Operand) (found : List Operand) (line next : Line) (lines rest : List Line) (all : Result Knowns SpecFault) → knowns_from end dims work found line lines ≡ all
-    → begins_with (codes "known") line.words ≡ true → known_at dims work found line ≡ Ok o → or_syntax (inner_line end lines) ≡ Ok (next, rest) → knowns_from end dims work (found ++ o ∷ []) next rest ≡ all
+pub knowns_from-next : (end : ℕ) (dims : List (List ℕ)) (work o : Operand) (found : List Operand) (line next : Line) (lines rest : List Line) (all : Result Knowns Fault) → knowns_from end dims work found line lines ≡ all
+    → begins_with (codes "known") line.words ≡ true → known_at dims work found line ≡ Ok o → inner_line end lines ≡ Ok (next, rest) → knowns_from end dims work (found ++ o ∷ []) next rest ≡ all
 knowns_from-next end dims work o found line next lines rest all so_far known read due =
     sym (knowns_at-line end dims work (found ++ o ∷ []) lines rest next due) ∙ sym (knowns_from-more end dims work o found line lines known read) ∙ so_far
 
-pub knowns_from-end : (end : ℕ) (dims : List (List ℕ)) (work o : Operand) (found : List Operand) (line : Line) (lines : List Line) (all : Result Knowns SpecFault) (fault : Option SpecFault) → knowns_from end dims work found line lines ≡ all
-    → begins_with (codes "known") line.words ≡ true → known_at dims work found line ≡ Ok o → EndsWith fault (or_syntax (inner_line end lines)) → EndsWith fault all
+pub knowns_from-end : (end : ℕ) (dims : List (List ℕ)) (work o : Operand) (found : List Operand) (line : Line) (lines : List Line) (all : Result Knowns Fault) (fault : Option Fault) → knowns_from end dims work found line lines ≡ all
+    → begins_with (codes "known") line.words ≡ true → known_at dims work found line ≡ Ok o → EndsWith fault (inner_line end lines) → EndsWith fault all
 knowns_from-end end dims work o found line lines all fault so_far known read ends =
-    ends_along fault all _ (sym so_far ∙ knowns_from-more end dims work o found line lines known read) (knowns_at-fault end dims work (found ++ o ∷ []) lines fault ends)
+    EndsWith-along fault all _ (sym so_far ∙ knowns_from-more end dims work o found line lines known read) (knowns_at-fault end dims work (found ++ o ∷ []) lines fault ends)

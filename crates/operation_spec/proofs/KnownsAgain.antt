@@ -5,9 +5,9 @@ use Rattle.std.specs.Prelude.{All, AllPairs}
 use Rattle.std.proofs.lemmas.List.{append-nil, map-append, get_or_append_left, get_or_at}
 use Rattle.std.proofs.lemmas.List.Elements.{All-head, All-tail}
 use Rattle.text_scan.specs.LineOrder.{AreLines}
-use Rattle.text_scan.specs.Lines.{Line}
+use Rattle.text_scan.specs.Lines.{Line, begins_with}
 use Rattle.operation_spec.specs.declared.operation.Operand.{Operand}
-use Rattle.operation_spec.specs.OperationFaults.{known_at, knowns_at, names_of, begins_with}
+use Rattle.operation_spec.specs.OperationFaults.{known_at, knowns_at, names_of}
 use Rattle.operation_spec.specs.OperationLines.{operand_line}
 use Rattle.operation_spec.specs.ValidOperations.{known_limit}
 use Rattle.operation_spec.proofs.DeclaredAgain.{AreDims, IsNamedOperand, known_at-line}

@@ -5,11 +5,11 @@ use Rattle.std.proofs.lemmas.List.Elements.{All-nil, All-push}
 use Rattle.std.proofs.lemmas.List.Quantifiers.{all_pairs_push}
 use Rattle.byte_texts.specs.Reading.{◌>>=◌}
 use Rattle.byte_texts.proofs.Binding.{bind_ok, same_ok}
-use Rattle.text_scan.specs.Lines.{Line}
+use Rattle.text_scan.specs.Lines.{Line, begins_with}
 use Rattle.text_scan.specs.Words.{is_name}
 use Rattle.text_scan.proofs.FaultTests.{passed_by}
 use Rattle.operation_spec.specs.declared.operation.Operand.{Operand}
-use Rattle.operation_spec.specs.OperationFaults.{Knowns, known_at, knowns_at, names_of, begins_with}
+use Rattle.operation_spec.specs.OperationFaults.{Knowns, known_at, knowns_at, names_of}
 use Rattle.operation_spec.specs.OperationLines.{operand_line}
 use Rattle.operation_spec.specs.ValidOperations.{IsOperand, known_limit}
 use Rattle.operation_spec.proofs.OperandTaken.{KnownTaken, known_taken}

@@ -12,23 +12,21 @@ pub mod KnownLines
 pub mod KnownSides
 pub mod KnownsAgain
 pub mod KnownsTaken
+pub mod LineForms
 pub mod LineTexts
 pub mod LinesTaken
 pub mod ListParts
 pub mod ManyTests
-pub mod MarkedParts
 pub mod MarkedWords
 pub mod NameNumbers
 pub mod NamesApart
 pub mod OperandTaken
-pub mod OperandTexts
 pub mod OperationAgain
 pub mod OperationTaken
 pub mod PrintedLines
 pub mod PrintedTexts
 pub mod SidesAgain
 pub mod SpelledNames
-pub mod TokenSlices
 pub mod UnmarkedWords
 pub mod WorkedOperations
 mod WorkedTexts

@@ -4,23 +4,25 @@ use Rattle.std.specs.List.{list_all}
 use Rattle.std.proofs.lemmas.Bool.{and_parts, not-false}
 use Rattle.std.proofs.lemmas.List.Sums.{AllPass-from_list_all}
 use Rattle.byte_texts.proofs.Binding.{same_ok}
-use Rattle.text_scan.specs.Lines.{Line, due_line, inner_line}
+use Rattle.text_scan.specs.FaultKinds.{Syntax}
+use Rattle.text_scan.specs.Faults.{◌on◌}
+use Rattle.text_scan.specs.Lines.{Line, due_line, inner_line, is_end, nth_word}
 use Rattle.text_scan.specs.Words.{is_name}
 use Rattle.text_scan.proofs.FaultTests.{passed_by}
-use Rattle.operation_spec.specs.OperationFaults.{or_syntax, is_name_line, name_at, is_dims_line, dims_at, names_behind, nth_word, is_end, end_at}
+use Rattle.operation_spec.specs.OperationFaults.{is_name_line, name_at, is_dims_line, dims_at, names_behind, end_at}
 use Rattle.operation_spec.specs.ValidOperations.{HasDims, dim_limit}
 use Rattle.operation_spec.proofs.FoundNames.{text_is, once_from_has_twice}
 
 -- the lines are the one that was due, and those behind it
-pub due_taken : (end : ℕ) (lines : List Line) (x : Line × List Line) → or_syntax (due_line end lines) ≡ Ok x → lines ≡ x.0 ∷ x.1
+pub due_taken : (end : ℕ) (lines : List Line) (x : Line × List Line) → due_line end lines ≡ Ok x → lines ≡ x.0 ∷ x.1
 due_taken end [] x e = absurd cc
 due_taken end (line ∷ lines) x e = ap (λ (p : Line × List Line). p.0 ∷ p.1) (same_ok (line, lines) x e)
 
-pub inner_taken : (end : ℕ) (lines : List Line) (x : Line × List Line) → or_syntax (inner_line end lines) ≡ Ok x → lines ≡ x.0 ∷ x.1
+pub inner_taken : (end : ℕ) (lines : List Line) (x : Line × List Line) → inner_line end lines ≡ Ok x → lines ≡ x.0 ∷ x.1
 inner_taken end [] x e = absurd cc
 inner_taken end (line ∷ lines) x e = unless (line.number == end) e
   where
-    unless : (b : Bool) → or_syntax (if b then Err end else Ok (line, lines)) ≡ Ok x → line ∷ lines ≡ x.0 ∷ x.1
+    unless : (b : Bool) → (if b then Err (Syntax on end) else Ok (line, lines)) ≡ Ok x → line ∷ lines ≡ x.0 ∷ x.1
     unless true e = absurd cc
     unless false e = ap (λ (p : Line × List Line). p.0 ∷ p.1) (same_ok (line, lines) x e)
 

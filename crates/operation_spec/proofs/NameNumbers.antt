@@ -2,8 +2,8 @@
 use Rattle.std.proofs.Common.{◌≡◌, ℕ, ◌+◌, Bool, false, cond, not, List, [], ◌∷◌, map, ap, refl, arith}
 use Rattle.std.specs.List.{prefix_len}
 use Rattle.std.specs.Str.{bytes_eq}
+use Rattle.text_scan.specs.Names.{number_of}
 use Rattle.operation_spec.specs.declared.operation.Operand.{Operand}
-use Rattle.operation_spec.specs.Equations.{number_of}
 use Rattle.operation_spec.specs.OperationFaults.{names_of}
 
 prefix_len-map : {X Y : Type 0} (p : Y → Bool) (f : X → Y) (xs : List X) → prefix_len p (map f xs) ≡ prefix_len (λ x. p (f x)) xs

@@ -6,8 +6,7 @@ use Rattle.std.specs.Str.{bytes_eq}
 use Rattle.std.proofs.lemmas.Bool.{lt-ltb, le-ltb, false_from_ne_true}
 use Rattle.std.proofs.lemmas.List.Sums.{prefix_len_is}
 use Rattle.std.proofs.lemmas.Slice.Eq.{bytes_eq-Decides}
-use Rattle.operation_spec.specs.Equations.{number_of}
-use Rattle.operation_spec.specs.OperationFaults.{is_among, has_twice}
+use Rattle.text_scan.specs.Names.{has_twice, is_among, number_of}
 use Rattle.operation_spec.specs.OperationLines.{nth_name}
 
 -- ---- the test of bytes

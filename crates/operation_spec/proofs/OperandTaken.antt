@@ -1,6 +1,7 @@
 -- The line of an operand that was read, and what holds of the operand. Cited by the laws of operation texts.
 use Rattle.std.proofs.Common.{◌≡◌, ◌≢◌, ℕ, ◌<◌, true, false, not, ◌==◌, if◌then◌else◌, List, [], ◌∷◌, length, codes, Ok, Option, Some, None, IfSome, IsTrue, All, bytes_eq, refl, sym, ◌∙◌, inl, inr, subst, eqb-true, leb-false}
 use Rattle.std.proofs.lemmas.Bool.{and_cases, or_parts, not-false, cond_both}
+use Rattle.text_scan.specs.Names.{is_among}
 use Rattle.structure_rules.specs.declared.Structure.{Structure}
 use Rattle.structure_rules.specs.declared.Structure.TheVariants.{General, Lower, UnitLower, Upper, UnitUpper, Diagonal, Symmetric}
 use Rattle.byte_texts.proofs.Binding.{same_ok}
@@ -9,7 +10,7 @@ use Rattle.text_scan.specs.Words.{is_name}
 use Rattle.text_scan.proofs.FaultTests.{passed_by}
 use Rattle.operation_spec.specs.declared.operation.Operand.{Operand}
 use Rattle.operation_spec.specs.Equations.{is_general, may_be_work}
-use Rattle.operation_spec.specs.OperationFaults.{is_among, structure_of, is_structure, some_structure, is_operand_line, operand_of, is_name_taken, has_unknown_dim, is_misshapen, work_at, known_at, names_of}
+use Rattle.operation_spec.specs.OperationFaults.{structure_of, is_structure, some_structure, is_operand_line, operand_of, is_name_taken, has_unknown_dim, is_misshapen, work_at, known_at, names_of}
 use Rattle.operation_spec.specs.OperationLines.{structure_word, operand_line}
 use Rattle.operation_spec.specs.ValidOperations.{IsOperand, known_limit}
 use Rattle.operation_spec.proofs.FoundNames.{text_is, text_is_not, nth_name-number_of, among_below, none_is}

@@ -5,7 +5,7 @@ use Rattle.std.specs.List.{flat_map}
 use Rattle.std.proofs.lemmas.List.{length-map}
 use Rattle.std.proofs.lemmas.List.Elements.{All-head, All-tail, All-map}
 use Rattle.text_scan.specs.LineOrder.{AreLines}
-use Rattle.text_scan.specs.Lines.{Line, inner_line}
+use Rattle.text_scan.specs.Lines.{Line, inner_line, begins_with}
 use Rattle.text_scan.specs.Words.{is_name}
 use Rattle.operation_spec.specs.declared.operation.Factor.{Factor}
 use Rattle.operation_spec.specs.declared.operation.Form.{Form}
@@ -14,7 +14,7 @@ use Rattle.operation_spec.specs.declared.operation.Operand.{Operand}
 use Rattle.operation_spec.specs.declared.operation.Operation.{Operation}
 use Rattle.operation_spec.specs.declared.operation.Term.{Term}
 use Rattle.operation_spec.specs.Equations.{side_of_factor, left_of_form, product_of_term, equation_of_operation}
-use Rattle.operation_spec.specs.OperationFaults.{begins_with, declared_at, operation_at, equation_at, end_at, factor_of, form_of, term_of}
+use Rattle.operation_spec.specs.OperationFaults.{declared_at, operation_at, equation_at, end_at, factor_of, form_of, term_of}
 use Rattle.operation_spec.specs.OperationLines.{known_names, operand_line, operation_lines, equation_words}
 use Rattle.operation_spec.specs.ValidOperations.{HasNames, IsValid, SpellsOperation, operands_of, factors_of_form, factors_of}
 use Rattle.operation_spec.proofs.DeclaredAgain.{AreDims, IsNamedOperand, name_at-line, dims_at-line, work_at-line}

@@ -1,17 +1,19 @@
 -- An operation that was read is valid and spelled by its lines. Cited by the law of operation texts.
-use Rattle.std.proofs.Common.{◌≡◌, ℕ, suc, List, [], ◌∷◌, ◌++◌, length, map, codes, Ok, All, IsTrue, sym, ap, ◌∙◌, subst, arith, append_assoc}
+use Rattle.std.proofs.Common.{◌≡◌, ℕ, suc, List, [], ◌∷◌, ◌++◌, length, map, codes, Result, Ok, Err, IfOk, All, IsTrue, sym, ap, ◌∙◌, subst, arith, append_assoc}
 use Rattle.std.proofs.lemmas.Bool.{not-true}
 use Rattle.std.proofs.lemmas.List.{map-append, length-map}
 use Rattle.std.proofs.lemmas.List.Elements.{All-cons}
+use Rattle.byte_texts.specs.Reading.{Gives}
 use Rattle.byte_texts.proofs.Binding.{bind_ok, same_ok}
 use Rattle.text_scan.specs.LineOrder.{AreLines}
 use Rattle.text_scan.specs.Lines.{Line}
 use Rattle.text_scan.specs.Words.{is_word, is_name}
 use Rattle.operation_spec.specs.declared.equation.Equation.{Equation}
+use Rattle.operation_spec.specs.declared.fault.SpecFault.{SpecFault}
 use Rattle.operation_spec.specs.declared.operation.Operand.{Operand}
 use Rattle.operation_spec.specs.declared.operation.Operation.{Operation}
 use Rattle.operation_spec.specs.Equations.{may_be_work, sides_of, sizes_agree, meets_form, equation_of_operation}
-use Rattle.operation_spec.specs.OperationFaults.{Declared, names_behind, declared_at, operation_at, form_of, term_of}
+use Rattle.operation_spec.specs.OperationFaults.{Declared, names_behind, declared_at, operation_at, form_of, spec_fault, term_of}
 use Rattle.operation_spec.specs.OperationLines.{operand_line, equation_words, operation_lines}
 use Rattle.operation_spec.specs.ValidOperations.{HasDims, IsOperand, IsValid, HasNames, SpellsOperation, all_names}
 use Rattle.operation_spec.proofs.EquationLine.{EquationRead, equation_read}
@@ -161,3 +163,8 @@ operation_taken end lines op rest are h =
     subst (λ (x : Operation × List Line). SpellsOperation lines x.0 x.1) (same_ok _ (op, rest) done.2)
     (spelled name.0 first.0.1 d e.0 (declared_taken end first.0.1 d declared.1) read end first.0.0 last.0.0 lines last.0.1 are (inner_taken end lines first.0 first.1)
     (due_taken end d.knowns.rest last.0 last.1) (name_taken first.0.0 name.0 name.1) (end_taken last.0.0 done.0 done.1))
+
+-- the same of what a reader answers, where it is what the lines say
+pub found_operation : (end : ℕ) (lines rest : List Line) (read : Result Operation SpecFault) → AreLines end lines → Gives spec_fault (λ op. (op, rest)) read (operation_at end lines) → IfOk read (λ op. SpellsOperation lines op rest)
+found_operation end lines rest (Ok op) are gives = operation_taken end lines op rest are gives
+found_operation end lines rest (Err fault) are gives = tt

@@ -1,7 +1,8 @@
 -- The words of an equation, each with the ' behind it. Cited by the laws of operation texts.
 use Rattle.std.proofs.Common.{◌≡◌, ◌≢◌, ℕ, ◌<◌, Bool, true, false, not, if◌then◌else◌, List, [], ◌∷◌, length, codes, bytes_eq, flat_map, refl, ap, ◌∙◌, inl, inr}
 use Rattle.std.proofs.lemmas.Bool.{and_parts, or_cases, not-true}
-use Rattle.operation_spec.specs.Equations.{Marked, marked, is_prime, is_plain, is_plus_or_minus, number_of, side_of}
+use Rattle.text_scan.specs.Names.{number_of}
+use Rattle.operation_spec.specs.Equations.{Marked, marked, is_prime, is_plain, is_plus_or_minus, side_of}
 use Rattle.operation_spec.specs.OperationFaults.{factor_of}
 use Rattle.operation_spec.specs.OperationLines.{factor_words, sign_word}
 use Rattle.operation_spec.proofs.FoundNames.{text_is, nth_name-number_of, nth_name-behind}

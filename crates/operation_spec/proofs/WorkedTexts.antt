@@ -2,11 +2,10 @@
 -- lines, or its fault is told at its line.
 use Rattle.std.proofs.Common.{◌≡◌, ℕ, List, [], Result, Ok, Err, refl, codes, map}
 use Rattle.text_scan.specs.declared.token.Token.{Token}
-use Rattle.text_scan.specs.declared.token.ScanFault.{ScanFault}
+use Rattle.text_scan.specs.FaultKinds.{Syntax, Limit, NameTwice, NameUnknown, TooManyTerms, Shape, Form}
+use Rattle.text_scan.specs.Faults.{Fault, ◌on◌}
 use Rattle.text_scan.specs.Lines.{Line, end_line_of, lines_of}
-use Rattle.text_scan.specs.Tokens.{front_of, tokens_from, tokens_of}
-use Rattle.operation_spec.specs.declared.fault.SpecFault.{SpecFault}
-use Rattle.operation_spec.specs.declared.fault.SpecFault.TheVariants.{Memory, Syntax, Limit, NameTwice, NameUnknown, TooManyTerms, Shape, Form}
+use Rattle.text_scan.specs.Tokens.{BadByte, front_of, scanned, tokens_from, tokens_of}
 use Rattle.operation_spec.specs.declared.operation.Operation.{Operation}
 use Rattle.operation_spec.proofs.WorkedOperations.{mul, lu, ldl, low, inv, syl, sqr, upp_right}
 use Rattle.operation_spec.specs.Equations.{equation_of}
@@ -16,18 +15,18 @@ use Rattle.operation_spec.specs.OperationLines.{operation_lines}
 -- ---- reading a text
 
 -- what the lines of a text say
-read : List ℕ → Result (Operation × List Line) SpecFault
-read text = go (tokens_of 1 text)
+read : List ℕ → Result (Operation × List Line) Fault
+read text = go (scanned (tokens_of 1 text))
   where
-    go : Result (List Token) ScanFault → Result (Operation × List Line) SpecFault
-    go (Err fault) = Err Memory
+    go : Result (List Token) Fault → Result (Operation × List Line) Fault
+    go (Err fault) = Err fault
     go (Ok tokens) = operation_at (end_line_of 1 text) (lines_of text tokens)
 
 -- the words of its lines
 words : List ℕ → List (List (List ℕ))
 words text = go (tokens_of 1 text)
   where
-    go : Result (List Token) ScanFault → List (List (List ℕ))
+    go : Result (List Token) BadByte → List (List (List ℕ))
     go (Err fault) = []
     go (Ok tokens) = map (λ line. line.words) (lines_of text tokens)
 
@@ -132,66 +131,66 @@ loose_text_is_read = refl
 
 -- ---- faults
 
-third_term : read (codes "operation mul\ndims m n k\nwork W general m n\nknown A general m k\nknown B general k n\nequation X = W + A * B + A * B + A * B\nend\n") ≡ Err (TooManyTerms 6)
+third_term : read (codes "operation mul\ndims m n k\nwork W general m n\nknown A general m k\nknown B general k n\nequation X = W + A * B + A * B + A * B\nend\n") ≡ Err (TooManyTerms on 6)
 unfolding read front_of tokens_from equation_of name_at dims_at work_at known_at knowns_at sides_at equation_at end_at declared_at operation_at mul
 third_term = refl
 
-unknown_operand : read (codes "operation mul\ndims m n k\nwork W general m n\nknown A general m k\nknown B general k n\nequation X = W + A * C\nend\n") ≡ Err (NameUnknown 6)
+unknown_operand : read (codes "operation mul\ndims m n k\nwork W general m n\nknown A general m k\nknown B general k n\nequation X = W + A * C\nend\n") ≡ Err (NameUnknown on 6)
 unfolding read front_of tokens_from equation_of name_at dims_at work_at known_at knowns_at sides_at equation_at end_at declared_at operation_at mul
 unknown_operand = refl
 
-unknown_operand_in_third_term : read (codes "operation mul\ndims m n k\nwork W general m n\nknown A general m k\nknown B general k n\nequation X = W + A * B + A * B + A * C\nend\n") ≡ Err (NameUnknown 6)
+unknown_operand_in_third_term : read (codes "operation mul\ndims m n k\nwork W general m n\nknown A general m k\nknown B general k n\nequation X = W + A * B + A * B + A * C\nend\n") ≡ Err (NameUnknown on 6)
 unfolding read front_of tokens_from equation_of name_at dims_at work_at known_at knowns_at sides_at equation_at end_at declared_at operation_at mul
 unknown_operand_in_third_term = refl
 
-dimensions_that_differ : read (codes "operation mul\ndims m n k\nwork W general m n\nknown A general m k\nknown B general k n\nequation X = W + B * A\nend\n") ≡ Err (Shape 6)
+dimensions_that_differ : read (codes "operation mul\ndims m n k\nwork W general m n\nknown A general m k\nknown B general k n\nequation X = W + B * A\nend\n") ≡ Err (Shape on 6)
 unfolding read front_of tokens_from equation_of name_at dims_at work_at known_at knowns_at sides_at equation_at end_at declared_at operation_at mul
 dimensions_that_differ = refl
 
-unused_operands : read (codes "operation mul\ndims m n k\nwork W general m n\nknown A general m k\nknown B general k n\nequation X = W\nend\n") ≡ Err (Form 6)
+unused_operands : read (codes "operation mul\ndims m n k\nwork W general m n\nknown A general m k\nknown B general k n\nequation X = W\nend\n") ≡ Err (Form on 6)
 unfolding read front_of tokens_from equation_of name_at dims_at work_at known_at knowns_at sides_at equation_at end_at declared_at operation_at mul
 unused_operands = refl
 
-no_work_operand_first : read (codes "operation mul\ndims m n k\nwork W general m n\nknown A general m k\nknown B general k n\nequation X = + A * B\nend\n") ≡ Err (Syntax 6)
+no_work_operand_first : read (codes "operation mul\ndims m n k\nwork W general m n\nknown A general m k\nknown B general k n\nequation X = + A * B\nend\n") ≡ Err (Syntax on 6)
 unfolding read front_of tokens_from equation_of name_at dims_at work_at known_at knowns_at sides_at equation_at end_at declared_at operation_at mul
 no_work_operand_first = refl
 
-known_operand_first : read (codes "operation mul\ndims m n k\nwork W general m n\nknown A general m k\nknown B general k n\nequation X = A + A * B\nend\n") ≡ Err (Shape 6)
+known_operand_first : read (codes "operation mul\ndims m n k\nwork W general m n\nknown A general m k\nknown B general k n\nequation X = A + A * B\nend\n") ≡ Err (Shape on 6)
 unfolding read front_of tokens_from equation_of name_at dims_at work_at known_at knowns_at sides_at equation_at end_at declared_at operation_at mul
 known_operand_first = refl
 
-solution_as_factor : read (codes "operation mul\ndims m n k\nwork W general m n\nknown A general m k\nknown B general k n\nequation X * X = W\nend\n") ≡ Err (NameUnknown 6)
+solution_as_factor : read (codes "operation mul\ndims m n k\nwork W general m n\nknown A general m k\nknown B general k n\nequation X * X = W\nend\n") ≡ Err (NameUnknown on 6)
 unfolding read front_of tokens_from equation_of name_at dims_at work_at known_at knowns_at sides_at equation_at end_at declared_at operation_at mul
 solution_as_factor = refl
 
-primed_solution : read (codes "operation mul\ndims m n k\nwork W general m n\nknown A general m k\nknown B general k n\nequation T * X' = W\nend\n") ≡ Err (Syntax 6)
+primed_solution : read (codes "operation mul\ndims m n k\nwork W general m n\nknown A general m k\nknown B general k n\nequation T * X' = W\nend\n") ≡ Err (Syntax on 6)
 unfolding read front_of tokens_from equation_of name_at dims_at work_at known_at knowns_at sides_at equation_at end_at declared_at operation_at mul
 primed_solution = refl
 
-no_further_line : read (codes "operation mul\ndims m n k\nwork W general m n\nknown A general m k\nknown B general k n\n") ≡ Err (Syntax 6)
+no_further_line : read (codes "operation mul\ndims m n k\nwork W general m n\nknown A general m k\nknown B general k n\n") ≡ Err (Syntax on 6)
 unfolding read front_of tokens_from equation_of name_at dims_at work_at known_at knowns_at sides_at equation_at end_at declared_at operation_at mul
 no_further_line = refl
 
-last_line_without_its_line_feed : read (codes "operation mul\ndims m n k\nwork W general m n\nknown A general m k\nknown B general k n\nequation X = W") ≡ Err (Syntax 6)
+last_line_without_its_line_feed : read (codes "operation mul\ndims m n k\nwork W general m n\nknown A general m k\nknown B general k n\nequation X = W") ≡ Err (Syntax on 6)
 unfolding read front_of tokens_from equation_of name_at dims_at work_at known_at knowns_at sides_at equation_at end_at declared_at operation_at mul
 last_line_without_its_line_feed = refl
 
-lu_of_two_dimensions : read (codes "operation lu\ndims n m\nwork W general n m\nequation lu X = W\nend\n") ≡ Err (Form 4)
+lu_of_two_dimensions : read (codes "operation lu\ndims n m\nwork W general n m\nequation lu X = W\nend\n") ≡ Err (Form on 4)
 unfolding read front_of tokens_from equation_of name_at dims_at work_at known_at knowns_at sides_at equation_at end_at declared_at operation_at lu
 lu_of_two_dimensions = refl
 
-lower_on_two_dimensions : read (codes "operation lu\ndims n m\nwork W lower n m\n") ≡ Err (Shape 3)
+lower_on_two_dimensions : read (codes "operation lu\ndims n m\nwork W lower n m\n") ≡ Err (Shape on 3)
 unfolding read front_of tokens_from equation_of name_at dims_at work_at known_at knowns_at sides_at equation_at end_at declared_at operation_at lu
 lower_on_two_dimensions = refl
 
-seven_dimensions : read (codes "operation lu\ndims n n n n n n n\nwork W symmetric n n\n") ≡ Err (Limit 2)
+seven_dimensions : read (codes "operation lu\ndims n n n n n n n\nwork W symmetric n n\n") ≡ Err (Limit on 2)
 unfolding read front_of tokens_from equation_of name_at dims_at work_at known_at knowns_at sides_at equation_at end_at declared_at operation_at lu
 seven_dimensions = refl
 
-dimension_twice : read (codes "operation lu\ndims n m n\n") ≡ Err (NameTwice 2)
+dimension_twice : read (codes "operation lu\ndims n m n\n") ≡ Err (NameTwice on 2)
 unfolding read front_of tokens_from equation_of name_at dims_at work_at known_at knowns_at sides_at equation_at end_at declared_at operation_at lu
 dimension_twice = refl
 
-operand_named_like_the_solution : read (codes "operation lu\ndims n\nwork X general n k\n") ≡ Err (NameTwice 3)
+operand_named_like_the_solution : read (codes "operation lu\ndims n\nwork X general n k\n") ≡ Err (NameTwice on 3)
 unfolding read front_of tokens_from equation_of name_at dims_at work_at known_at knowns_at sides_at equation_at end_at declared_at operation_at lu
 operand_named_like_the_solution = refl

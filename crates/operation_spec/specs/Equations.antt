@@ -1,9 +1,10 @@
 -- An equation as it is written, over operands by their numbers: the work operand is 0, and known operand k is k + 1.
 use Rattle.std.specs.Prelude.{ℕ, zero, suc, ◌+◌, List, [], ◌∷◌, ◌++◌, codes, map, slice_index_or, Option, Some, None, Bool, true, false, ◌&&◌, ◌||◌, not, ◌==◌, if◌then◌else◌}
-use Rattle.std.specs.List.{flat_map, list_all, prefix_len}
+use Rattle.std.specs.List.{flat_map, list_all}
 use Rattle.std.specs.Str.{bytes_eq}
 use Rattle.structure_rules.specs.declared.Structure.{Structure}
 use Rattle.structure_rules.specs.declared.Structure.TheVariants as structures
+use Rattle.text_scan.specs.Names.{number_of}
 use Rattle.text_scan.specs.Words.{is_name}
 use Rattle.operation_spec.specs.declared.equation.Side.{Side}
 use Rattle.operation_spec.specs.declared.equation.Product.{Product}
@@ -43,10 +44,6 @@ is_plus_or_minus m = is_plain (codes "+") m || is_plain (codes "-") m
 -- a name, perhaps with ' behind it
 abbrev pub is_factor : Marked → Bool
 is_factor m = is_name m.word
-
--- the first number with this name; the count of the names where none has it
-abbrev pub number_of : List (List ℕ) → List ℕ → ℕ
-number_of names w = prefix_len (λ name. not (bytes_eq name w)) names
 
 abbrev pub side_of : List (List ℕ) → Marked → Side
 side_of names m = record { operand = number_of names m.word; primed = m.primed }

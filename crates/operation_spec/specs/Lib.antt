@@ -1,10 +1,9 @@
 pub mod BlocksSeen
 pub mod Equations
-pub mod MarkedTokens
+pub mod MarkedWords
 pub mod OperationFaults
 pub mod OperationLines
 pub mod SizesSeen
 pub mod Splits
-pub mod TokenLines
 pub mod ValidOperations
 pub mod WordTexts

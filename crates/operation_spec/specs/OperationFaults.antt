@@ -1,16 +1,18 @@
 -- The faults of the lines of an operation block: for each line the tests in their order, over what was declared above
 -- it. Where no line has a fault, the lines say an operation.
-use Rattle.std.specs.Prelude.{ℕ, zero, suc, ◌-◌, List, [], ◌∷◌, ◌++◌, length, codes, map, slice_index_or, Result, Ok, Err, Option, Some, None, Bool, true, false, ◌&&◌, ◌||◌, not, nat_lt, nat_le, ◌==◌, if◌then◌else◌}
+use Rattle.std.specs.Prelude.{ℕ, zero, suc, ◌-◌, List, [], ◌∷◌, ◌++◌, length, codes, map, Result, Ok, Err, Option, Some, None, Bool, true, false, ◌&&◌, ◌||◌, not, nat_lt, nat_le, ◌==◌, if◌then◌else◌}
 use Rattle.std.specs.List.{list_all}
 use Rattle.std.specs.Str.{bytes_eq}
 use Rattle.structure_rules.specs.declared.Structure.{Structure}
 use Rattle.structure_rules.specs.declared.Structure.TheVariants.{General, Lower, UnitLower, Upper, UnitUpper, Diagonal, Symmetric}
 use Rattle.byte_texts.specs.Reading.{◌>>=◌}
-use Rattle.text_scan.specs.Faults.{first_fault}
-use Rattle.text_scan.specs.Lines.{Line, due_line, inner_line}
+use Rattle.text_scan.specs.FaultKinds.{Syntax, Limit, NameTwice, NameUnknown, TooManyTerms, Shape, Form}
+use Rattle.text_scan.specs.Faults.{Fault, ◌on◌, first_fault}
+use Rattle.text_scan.specs.Lines.{Line, begins_with, due_line, inner_line, is_end, nth_word}
+use Rattle.text_scan.specs.Names.{number_of, is_among, has_twice}
 use Rattle.text_scan.specs.Words.{is_name}
 use Rattle.operation_spec.specs.declared.fault.SpecFault.{SpecFault}
-use Rattle.operation_spec.specs.declared.fault.SpecFault.TheVariants.{Memory, Syntax, Limit, NameTwice, NameUnknown, TooManyTerms, Shape, Form}
+use Rattle.operation_spec.specs.declared.fault.SpecFault.TheVariants as spec_faults
 use Rattle.operation_spec.specs.declared.equation.Equation.{Equation}
 use Rattle.operation_spec.specs.declared.equation.Side.{Side}
 use Rattle.operation_spec.specs.declared.equation.Product.{Product}
@@ -22,36 +24,19 @@ use Rattle.operation_spec.specs.declared.operation.Factor.{Factor}
 use Rattle.operation_spec.specs.declared.operation.Term.{Term}
 use Rattle.operation_spec.specs.declared.operation.Form.TheVariants as forms
 use Rattle.operation_spec.specs.declared.operation.Form as declared_form
-use Rattle.operation_spec.specs.Equations.{number_of, equation_of, sides_of, sizes_agree, meets_form, may_be_work, is_general, uses_operand, has_dim}
+use Rattle.operation_spec.specs.Equations.{equation_of, sides_of, sizes_agree, meets_form, may_be_work, is_general, uses_operand, has_dim}
 use Rattle.operation_spec.specs.ValidOperations.{dim_limit, known_limit, term_limit}
 
--- want of memory is no fault of the text
-abbrev pub text_fault : SpecFault → Option SpecFault
-text_fault Memory = None
-text_fault (Syntax line) = Some (Syntax line)
-text_fault (Limit line) = Some (Limit line)
-text_fault (NameTwice line) = Some (NameTwice line)
-text_fault (NameUnknown line) = Some (NameUnknown line)
-text_fault (TooManyTerms line) = Some (TooManyTerms line)
-text_fault (Shape line) = Some (Shape line)
-text_fault (Form line) = Some (Form line)
-
--- where the text ends too early is a fault of syntax
-abbrev pub or_syntax : {A : Type 0} → Result A ℕ → Result A SpecFault
-or_syntax (Ok x) = Ok x
-or_syntax (Err line) = Err (Syntax line)
-
--- one of the names is this one
-abbrev pub is_among : List (List ℕ) → List ℕ → Bool
-is_among names w = nat_lt (number_of names w) (length names)
-
--- a name stands twice
-abbrev pub has_twice : List (List ℕ) → Bool
-has_twice [] = false
-has_twice (name ∷ names) = is_among names name || has_twice names
-
-abbrev pub nth_word : List (List ℕ) → ℕ → List ℕ
-nth_word words n = slice_index_or words n []
+-- the fault that an error names; want of memory names none
+abbrev pub spec_fault : SpecFault → Option Fault
+spec_fault spec_faults.Memory = None
+spec_fault (spec_faults.Syntax line) = Some (Syntax on line)
+spec_fault (spec_faults.Limit line) = Some (Limit on line)
+spec_fault (spec_faults.NameTwice line) = Some (NameTwice on line)
+spec_fault (spec_faults.NameUnknown line) = Some (NameUnknown on line)
+spec_fault (spec_faults.TooManyTerms line) = Some (TooManyTerms on line)
+spec_fault (spec_faults.Shape line) = Some (Shape on line)
+spec_fault (spec_faults.Form line) = Some (Form on line)
 
 -- ---- `operation NAME`
 
@@ -59,8 +44,8 @@ abbrev pub is_name_line : List (List ℕ) → Bool
 is_name_line (first ∷ name ∷ []) = bytes_eq first (codes "operation") && is_name name
 is_name_line _ = false
 
-unfoldable pub name_at : Line → Result (List ℕ) SpecFault
-name_at line = first_fault (record { holds = not (is_name_line line.words); fault = Syntax line.number } ∷ []) (nth_word line.words 1)
+unfoldable pub name_at : Line → Result (List ℕ) Fault
+name_at line = first_fault (record { holds = not (is_name_line line.words); fault = Syntax on line.number } ∷ []) (nth_word line.words 1)
 
 -- ---- `dims NAME ..`
 
@@ -72,11 +57,11 @@ abbrev pub is_dims_line : List (List ℕ) → Bool
 is_dims_line (first ∷ names) = bytes_eq first (codes "dims") && nat_lt 0 (length names) && list_all is_name names
 is_dims_line [] = false
 
-unfoldable pub dims_at : Line → Result (List (List ℕ)) SpecFault
+unfoldable pub dims_at : Line → Result (List (List ℕ)) Fault
 dims_at line = let dims = names_behind line.words in first_fault (
-    record { holds = not (is_dims_line line.words); fault = Syntax line.number }
-    ∷ record { holds = nat_lt dim_limit (length dims); fault = Limit line.number }
-    ∷ record { holds = has_twice dims; fault = NameTwice line.number }
+    record { holds = not (is_dims_line line.words); fault = Syntax on line.number }
+    ∷ record { holds = nat_lt dim_limit (length dims); fault = Limit on line.number }
+    ∷ record { holds = has_twice dims; fault = NameTwice on line.number }
     ∷ []) dims
 
 -- ---- `work NAME STRUCTURE DIM DIM`, and the same with `known`
@@ -124,30 +109,26 @@ has_unknown_dim dims words = not (is_among dims (nth_word words 3)) || not (is_a
 abbrev pub is_misshapen : Operand → Bool
 is_misshapen o = not (is_general o.structure) && not (o.rows == o.cols)
 
-unfoldable pub work_at : List (List ℕ) → Line → Result Operand SpecFault
+unfoldable pub work_at : List (List ℕ) → Line → Result Operand Fault
 work_at dims line = let o = operand_of dims line.words in first_fault (
-    record { holds = not (is_operand_line (codes "work") line.words); fault = Syntax line.number }
-    ∷ record { holds = is_name_taken [] o.name; fault = NameTwice line.number }
-    ∷ record { holds = has_unknown_dim dims line.words; fault = NameUnknown line.number }
-    ∷ record { holds = is_misshapen o; fault = Shape line.number }
-    ∷ record { holds = not (may_be_work o.structure); fault = Form line.number }
+    record { holds = not (is_operand_line (codes "work") line.words); fault = Syntax on line.number }
+    ∷ record { holds = is_name_taken [] o.name; fault = NameTwice on line.number }
+    ∷ record { holds = has_unknown_dim dims line.words; fault = NameUnknown on line.number }
+    ∷ record { holds = is_misshapen o; fault = Shape on line.number }
+    ∷ record { holds = not (may_be_work o.structure); fault = Form on line.number }
     ∷ []) o
 
 abbrev pub names_of : Operand → List Operand → List (List ℕ)
 names_of work knowns = map (λ o. o.name) (work ∷ knowns)
 
-unfoldable pub known_at : List (List ℕ) → Operand → List Operand → Line → Result Operand SpecFault
+unfoldable pub known_at : List (List ℕ) → Operand → List Operand → Line → Result Operand Fault
 known_at dims work knowns line = let o = operand_of dims line.words in first_fault (
-    record { holds = not (is_operand_line (codes "known") line.words); fault = Syntax line.number }
-    ∷ record { holds = nat_le known_limit (length knowns); fault = Limit line.number }
-    ∷ record { holds = is_name_taken (names_of work knowns) o.name; fault = NameTwice line.number }
-    ∷ record { holds = has_unknown_dim dims line.words; fault = NameUnknown line.number }
-    ∷ record { holds = is_misshapen o; fault = Shape line.number }
+    record { holds = not (is_operand_line (codes "known") line.words); fault = Syntax on line.number }
+    ∷ record { holds = nat_le known_limit (length knowns); fault = Limit on line.number }
+    ∷ record { holds = is_name_taken (names_of work knowns) o.name; fault = NameTwice on line.number }
+    ∷ record { holds = has_unknown_dim dims line.words; fault = NameUnknown on line.number }
+    ∷ record { holds = is_misshapen o; fault = Shape on line.number }
     ∷ []) o
-
-abbrev pub begins_with : List ℕ → List (List ℕ) → Bool
-begins_with word [] = false
-begins_with word (first ∷ words) = bytes_eq first word
 
 -- the known operands behind those found, up to a line that doesn't begin with `known`; that line, and those behind it
 pub record Knowns : Type 0 where
@@ -155,10 +136,10 @@ pub record Knowns : Type 0 where
   pub line : Line
   pub rest : List Line
 
-unfoldable pub knowns_at : ℕ → List (List ℕ) → Operand → List Operand → List Line → Result Knowns SpecFault
-knowns_at end dims work found [] = Err (Syntax end)
+unfoldable pub knowns_at : ℕ → List (List ℕ) → Operand → List Operand → List Line → Result Knowns Fault
+knowns_at end dims work found [] = Err (Syntax on end)
 knowns_at end dims work found (line ∷ lines) =
-    if line.number == end then Err (Syntax line.number)
+    if line.number == end then Err (Syntax on line.number)
     else if begins_with (codes "known") line.words then (known_at dims work found line >>= λ o. knowns_at end dims work (found ++ o ∷ []) lines)
     else Ok (record { operands = found; line = line; rest = lines })
 
@@ -183,19 +164,19 @@ is_malformed dims work knowns e =
     not (e.first == 0) || uses_operand e 0 || not (meets_form work knowns e.left)
     || not (all_below (length knowns) (λ k. uses_operand e (suc k))) || not (all_below (length dims) (has_dim work knowns))
 
-unfoldable pub sides_at : List (List ℕ) → Operand → List Operand → ℕ → Equation → Result Equation SpecFault
+unfoldable pub sides_at : List (List ℕ) → Operand → List Operand → ℕ → Equation → Result Equation Fault
 sides_at dims work knowns line e = first_fault (
-    record { holds = has_unknown_side work knowns e; fault = NameUnknown line }
-    ∷ record { holds = nat_lt term_limit (length e.products); fault = TooManyTerms line }
-    ∷ record { holds = not (sizes_agree work knowns e); fault = Shape line }
-    ∷ record { holds = is_malformed dims work knowns e; fault = Form line }
+    record { holds = has_unknown_side work knowns e; fault = NameUnknown on line }
+    ∷ record { holds = nat_lt term_limit (length e.products); fault = TooManyTerms on line }
+    ∷ record { holds = not (sizes_agree work knowns e); fault = Shape on line }
+    ∷ record { holds = is_malformed dims work knowns e; fault = Form on line }
     ∷ []) e
 
-unfoldable pub equation_at : List (List ℕ) → Operand → List Operand → Line → Result Equation SpecFault
+unfoldable pub equation_at : List (List ℕ) → Operand → List Operand → Line → Result Equation Fault
 equation_at dims work knowns line = said (equation_in (names_of work knowns) line.words)
   where
-    said : Option Equation → Result Equation SpecFault
-    said None = Err (Syntax line.number)
+    said : Option Equation → Result Equation Fault
+    said None = Err (Syntax on line.number)
     said (Some e) = sides_at dims work knowns line.number e
 
 -- ---- the operation that they say, where the work operand is no side
@@ -216,12 +197,8 @@ term_of p = record { minus = p.minus; first = factor_of p.first; second = factor
 
 -- ---- `end`
 
-abbrev pub is_end : List (List ℕ) → Bool
-is_end (word ∷ []) = bytes_eq word (codes "end")
-is_end _ = false
-
-unfoldable pub end_at : Line → Result (Unit {0}) SpecFault
-end_at line = first_fault (record { holds = not (is_end line.words); fault = Syntax line.number } ∷ []) tt
+unfoldable pub end_at : Line → Result (Unit {0}) Fault
+end_at line = first_fault (record { holds = not (is_end line.words); fault = Syntax on line.number } ∷ []) tt
 
 -- ---- the whole block
 
@@ -231,23 +208,23 @@ pub record Declared : Type 0 where
   pub work : Operand
   pub knowns : Knowns
 
-unfoldable pub declared_at : ℕ → List Line → Result Declared SpecFault
+unfoldable pub declared_at : ℕ → List Line → Result Declared Fault
 declared_at end lines = do
-  second ← or_syntax (inner_line end lines)
+  second ← inner_line end lines
   dims ← dims_at second.0
-  third ← or_syntax (inner_line end second.1)
+  third ← inner_line end second.1
   work ← work_at dims third.0
   knowns ← knowns_at end dims work [] third.1
   Ok (record { dims = dims; work = work; knowns = knowns })
 
 -- the operation that the first lines say, and the lines behind them
-unfoldable pub operation_at : ℕ → List Line → Result (Operation × List Line) SpecFault
+unfoldable pub operation_at : ℕ → List Line → Result (Operation × List Line) Fault
 operation_at end lines = do
-  first ← or_syntax (inner_line end lines)
+  first ← inner_line end lines
   name ← name_at first.0
   declared ← declared_at end first.1
   e ← equation_at declared.dims declared.work declared.knowns.operands declared.knowns.line
-  last ← or_syntax (due_line end declared.knowns.rest)
+  last ← due_line end declared.knowns.rest
   done ← end_at last.0
   Ok (
     record {

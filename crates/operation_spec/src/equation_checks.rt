@@ -4,10 +4,8 @@
 ghost use Rattle.std.specs.Prelude.{◌≡◌, ◌≤◌, suc, ◌&&◌, ◌||◌, ◌==◌, not, nat_lt, length, IfOk};
 ghost use Rattle.std.specs.List.{list_all};
 ghost use Rattle.byte_texts.specs.Reading.{Gives};
-ghost use Rattle.text_scan.specs.Scanned.{AreTokens};
 ghost use Rattle.operation_spec.specs.Equations.{has_dim, is_triangle_on, meets_form, sides_of, sides_of_left};
-ghost use Rattle.operation_spec.specs.OperationFaults.{all_below, equation_at, is_malformed, sides_at, text_fault};
-ghost use Rattle.operation_spec.specs.TokenLines.{line_at};
+ghost use Rattle.operation_spec.specs.OperationFaults.{all_below, equation_at, is_malformed, sides_at, spec_fault};
 
 use crate::equation::{Equation, LeftSide, Side};
 use crate::equation_sizes::{nth_operand, sizes_agree};
@@ -16,7 +14,7 @@ use crate::fault::SpecFault;
 use crate::operation::Operand;
 use std::alloc::{AllocError, Global};
 use structure_rules::Structure;
-use text_scan::{Name, Token};
+use text_scan::{Name, TextLine};
 
 /// How many terms an equation may have.
 const TERM_LIMIT: usize = 2;
@@ -96,7 +94,8 @@ fn has_operand(sides: &[Side], number: u32) -> bool
 /// Whether each known operand, of which there are so many, is one of the sides.
 fn has_all_knowns(sides: &[Side], count: u32) -> bool
     requires { count ≤ 6 }
-    ensures { result ≡ all_below count (λ k. not (list_all (λ side. not (side.operand == suc k)) sides.now)) }
+    ensures { result ≡ all_below count (λ k. not
+        (list_all (λ side. not (side.operand == suc k)) sides.now)) }
 {
     for k in 0..count {
         if !has_operand(sides, k + 1) {
@@ -151,7 +150,8 @@ fn are_known(sides: &[Side], count: u32) -> bool
 /// Whether a name stands for no operand.
 fn has_unknown_side(knowns: &[Operand], first: u32, sides: &[Side]) -> bool
     requires { length knowns.now ≤ 6 }
-    ensures { result ≡ not (nat_lt first (suc (length knowns.now)) && list_all (λ side. nat_lt side.operand (suc (length knowns.now))) sides.now) }
+    ensures { result ≡ not (nat_lt first (suc (length knowns.now))
+        && list_all (λ side. nat_lt side.operand (suc (length knowns.now))) sides.now) }
 {
     let count = knowns.len() as u32 + 1;
     first >= count || !are_known(sides, count)
@@ -191,7 +191,8 @@ fn check_equation(
 ) -> Result<(), SpecFault>
     requires dims { length dims.now ≤ 6 }
     requires knowns { length knowns.now ≤ 6 }
-    ensures { Gives text_fault (λ _. e.now) result (sides_at dims.now work.now knowns.now number e.now) }
+    ensures { Gives spec_fault (λ _. e.now) result
+        (sides_at dims.now work.now knowns.now number e.now) }
 {
     let sides = sides_of(alloc, e)?;
     if has_unknown_side(knowns, e.first, sides.as_slice()) {
@@ -213,19 +214,16 @@ fn check_equation(
 #[tactic(auto, unfolding(crate::specs::OperationFaults::equation_at))]
 pub fn read_equation(
     alloc: Global,
-    bytes: &[u8],
     dims: &[Name],
     work: &Operand,
     knowns: &[Operand],
-    number: u32,
-    tokens: &[Token],
+    line: &TextLine<'_>,
 ) -> Result<Equation, SpecFault>
-    requires scanned { AreTokens 1 bytes.now tokens.now }
     requires dims { length dims.now ≤ 6 }
     requires knowns { length knowns.now ≤ 6 }
-    ensures { Gives text_fault (λ e. e) result (equation_at dims.now work.now knowns.now (line_at number bytes.now tokens.now)) }
+    ensures { Gives spec_fault (λ e. e) result (equation_at dims.now work.now knowns.now line.now) }
 {
-    let e = read_equation_words(alloc, bytes, work, knowns, number, tokens)?;
-    check_equation(alloc, dims, work, knowns, number, &e)?;
+    let e = read_equation_words(alloc, work, knowns, line)?;
+    check_equation(alloc, dims, work, knowns, line.number(), &e)?;
     Ok(e)
 }

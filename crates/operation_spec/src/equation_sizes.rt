@@ -76,7 +76,8 @@ fn left_has(work: &Operand, knowns: &[Operand], size: Size, left: LeftSide) -> b
 
 /// Whether each of the products has the size.
 fn products_have(work: &Operand, knowns: &[Operand], size: Size, products: &[Product]) -> bool
-    ensures { result ≡ list_all (λ p. product_has (size_seen size) (size_of work.now knowns.now p.first) (size_of work.now knowns.now p.second)) products.now }
+    ensures { result ≡ list_all (λ p. product_has (size_seen size)
+        (size_of work.now knowns.now p.first) (size_of work.now knowns.now p.second)) products.now }
 {
     products.iter().all(|p| {
         product_has(

@@ -2,75 +2,67 @@
 
 ghost use Rattle.std.specs.Prelude.{◌≤◌, Some, length};
 ghost use Rattle.byte_texts.specs.Reading.{Gives, some_or};
-ghost use Rattle.text_scan.specs.Scanned.{AreTokens};
-ghost use Rattle.operation_spec.specs.declared.fault.SpecFault.TheVariants.{Syntax};
+ghost use Rattle.text_scan.specs.FaultKinds.{Syntax};
+ghost use Rattle.text_scan.specs.Faults.{◌on◌};
 ghost use Rattle.operation_spec.specs.Equations.{left_at, products_of, with_right};
-ghost use Rattle.operation_spec.specs.MarkedTokens.{AreMarked, left_front_seen, marked_words};
-ghost use Rattle.operation_spec.specs.OperationFaults.{equation_in, names_of, text_fault};
-ghost use Rattle.operation_spec.specs.TokenLines.{words_of};
+ghost use Rattle.operation_spec.specs.MarkedWords.{left_front_seen, marked_words};
+ghost use Rattle.operation_spec.specs.OperationFaults.{equation_in, names_of, spec_fault};
 
-use crate::equation::{Equation, Product, ProductList};
+use crate::equation::{Equation, ProductList};
 use crate::fault::SpecFault;
-use crate::left_sides::{LeftSideFront, left_at, product_at};
-use crate::marked_tokens::{MarkedToken, marked};
+use crate::left_sides::{LeftSideFront, left_at, signed_at};
+use crate::marked_words::{MarkedWord, marked};
 use crate::operation::Operand;
 use std::alloc::Global;
-use text_scan::Token;
+use text_scan::TextLine;
 
 /// Any number of `+ F * G` or `- F * G`, and nothing else.
 fn products_of(
     alloc: Global,
-    bytes: &[u8],
     work: &Operand,
     knowns: &[Operand],
     number: u32,
-    words: &[MarkedToken],
+    words: &[MarkedWord<'_>],
 ) -> Result<ProductList, SpecFault>
-    requires marked { AreMarked bytes.now words.now }
-    requires few { length knowns.now ≤ 6 }
-    ensures { Gives text_fault (λ products. products) result (some_or (Syntax number) (products_of (names_of work.now knowns.now) (marked_words bytes.now words.now))) }
+    requires { length knowns.now ≤ 6 }
+    ensures { Gives spec_fault (λ products. products) result
+        (some_or (Syntax on number) (products_of (names_of work.now knowns.now)
+        (marked_words words.now))) }
 {
     let mut products = ProductList::new(alloc);
-    let mut rest = words;
-    while let [sign, behind @ ..] = rest {
-        let Some(p) = product_at(bytes, behind) else {
-            return Err(SpecFault::Syntax { line: number });
-        };
-        if !sign.is_plus_or_minus(bytes) {
-            return Err(SpecFault::Syntax { line: number });
+    let mut at = 0;
+    while at < words.len() {
+        match signed_at(work, knowns, &words[at..]) {
+            Some(product) => {
+                products.push(product)?;
+                at += 4;
+            }
+            None => return Err(SpecFault::Syntax { line: number }),
         }
-        let minus = sign.is_plain(bytes, b"-");
-        products.push(Product {
-            minus,
-            first: p.first.side(bytes, work, knowns),
-            second: p.second.side(bytes, work, knowns),
-        })?;
-        rest = p.rest;
     }
     Ok(products)
 }
 
 /// The equation whose left side was read: `= W TERMS` is due.
-#[tactic(auto, using(crate::proofs::MarkedParts::marked_behind))]
 fn with_right(
     alloc: Global,
-    bytes: &[u8],
     work: &Operand,
     knowns: &[Operand],
     number: u32,
-    front: LeftSideFront<'_>,
+    front: LeftSideFront<'_, '_>,
 ) -> Result<Equation, SpecFault>
-    requires marked { AreMarked bytes.now front.rest.now }
-    requires few { length knowns.now ≤ 6 }
-    ensures { Gives text_fault (λ e. e) result (some_or (Syntax number) (with_right (names_of work.now knowns.now) (Some (left_front_seen bytes.now front.entry)))) }
+    requires { length knowns.now ≤ 6 }
+    ensures { Gives spec_fault (λ e. e) result
+        (some_or (Syntax on number) (with_right (names_of work.now knowns.now)
+        (Some (left_front_seen front.entry)))) }
 {
     match front.rest {
         [equals, w, rest @ ..] => {
-            if equals.is_plain(bytes, b"=") && !w.primed && w.is_factor(bytes) {
-                let products = products_of(alloc, bytes, work, knowns, number, rest)?;
+            if equals.is_plain(b"=") && !w.primed && w.is_factor() {
+                let products = products_of(alloc, work, knowns, number, rest)?;
                 Ok(Equation {
                     left: front.left,
-                    first: w.side(bytes, work, knowns).operand,
+                    first: w.side(work, knowns).operand,
                     products,
                 })
             } else {
@@ -84,18 +76,18 @@ fn with_right(
 /// Reads what stands behind the word `equation`.
 fn equation_of(
     alloc: Global,
-    bytes: &[u8],
     work: &Operand,
     knowns: &[Operand],
     number: u32,
-    words: &[MarkedToken],
+    words: &[MarkedWord<'_>],
 ) -> Result<Equation, SpecFault>
-    requires marked { AreMarked bytes.now words.now }
-    requires few { length knowns.now ≤ 6 }
-    ensures { Gives text_fault (λ e. e) result (some_or (Syntax number) (with_right (names_of work.now knowns.now) (left_at (names_of work.now knowns.now) (marked_words bytes.now words.now)))) }
+    requires { length knowns.now ≤ 6 }
+    ensures { Gives spec_fault (λ e. e) result
+        (some_or (Syntax on number) (with_right (names_of work.now knowns.now)
+        (left_at (names_of work.now knowns.now) (marked_words words.now)))) }
 {
-    match left_at(bytes, work, knowns, words) {
-        Some(front) => Ok(with_right(alloc, bytes, work, knowns, number, front)?),
+    match left_at(work, knowns, words) {
+        Some(front) => Ok(with_right(alloc, work, knowns, number, front)?),
         None => Err(SpecFault::Syntax { line: number }),
     }
 }
@@ -104,25 +96,20 @@ fn equation_of(
 #[tactic(auto, unfolding(crate::specs::Equations::equation_of))]
 pub fn read_equation_words(
     alloc: Global,
-    bytes: &[u8],
     work: &Operand,
     knowns: &[Operand],
-    number: u32,
-    tokens: &[Token],
+    line: &TextLine<'_>,
 ) -> Result<Equation, SpecFault>
-    requires scanned { AreTokens 1 bytes.now tokens.now }
-    requires few { length knowns.now ≤ 6 }
-    ensures { Gives text_fault (λ e. e) result (some_or (Syntax number) (equation_in (names_of work.now knowns.now) (words_of bytes.now tokens.now))) }
+    requires { length knowns.now ≤ 6 }
+    ensures { Gives spec_fault (λ e. e) result
+        (some_or (Syntax on line.now.number)
+        (equation_in (names_of work.now knowns.now) line.now.words)) }
 {
-    match tokens {
-        [first, rest @ ..] => {
-            if first.is_text(bytes, b"equation") {
-                let words = marked(alloc, bytes, rest)?;
-                Ok(equation_of(alloc, bytes, work, knowns, number, words.as_slice())?)
-            } else {
-                Err(SpecFault::Syntax { line: number })
-            }
-        }
-        [] => Err(SpecFault::Syntax { line: number }),
+    let number = line.number();
+    if line.begins_with(b"equation") {
+        let words = marked(alloc, line.behind(1))?;
+        Ok(equation_of(alloc, work, knowns, number, words.as_slice())?)
+    } else {
+        Err(SpecFault::Syntax { line: number })
     }
 }

@@ -9,7 +9,8 @@ use std::alloc::AllocError;
 
 /// Appends a factor: its operand's name, with `'` right behind it where it is transposed.
 fn put_factor(knowns: &[Operand], f: Factor, out: &mut Vec<u8>) -> Result<(), AllocError>
-    ensures { OnOk result (out.new.items ≡ out.old.items ++ words_text (factor_words (map (λ o. o.name) knowns.now) f)) }
+    ensures { OnOk result (out.new.items ≡ out.old.items ++ words_text
+        (factor_words (map (λ o. o.name) knowns.now) f)) }
 {
     put_word(known_name(knowns, f.known), out)?;
     if f.primed {
@@ -19,7 +20,8 @@ fn put_factor(knowns: &[Operand], f: Factor, out: &mut Vec<u8>) -> Result<(), Al
 }
 
 fn put_term(knowns: &[Operand], term: Term, out: &mut Vec<u8>) -> Result<(), AllocError>
-    ensures { OnOk result (out.new.items ≡ out.old.items ++ words_text (term_words (map (λ o. o.name) knowns.now) term)) }
+    ensures { OnOk result (out.new.items ≡ out.old.items ++ words_text
+        (term_words (map (λ o. o.name) knowns.now) term)) }
 {
     put_sign(term.minus, out)?;
     put_factor(knowns, term.first, out)?;
@@ -29,7 +31,8 @@ fn put_term(knowns: &[Operand], term: Term, out: &mut Vec<u8>) -> Result<(), All
 }
 
 fn put_terms(knowns: &[Operand], terms: &[Term], out: &mut Vec<u8>) -> Result<(), AllocError>
-    ensures { OnOk result (out.new.items ≡ out.old.items ++ words_text (flat_map (term_words (map (λ o. o.name) knowns.now)) terms.now)) }
+    ensures { OnOk result (out.new.items ≡ out.old.items ++ words_text
+        (flat_map (term_words (map (λ o. o.name) knowns.now)) terms.now)) }
 {
     for term in terms {
         put_term(knowns, *term, out)?;
@@ -39,7 +42,8 @@ fn put_terms(knowns: &[Operand], terms: &[Term], out: &mut Vec<u8>) -> Result<()
 
 /// Appends `T * X`.
 fn put_left_product(knowns: &[Operand], t: Factor, out: &mut Vec<u8>) -> Result<(), AllocError>
-    ensures { OnOk result (out.new.items ≡ out.old.items ++ words_text (factor_words (map (λ o. o.name) knowns.now) t ++ codes "*" ∷ codes "X" ∷ [])) }
+    ensures { OnOk result (out.new.items ≡ out.old.items ++ words_text
+        (factor_words (map (λ o. o.name) knowns.now) t ++ codes "*" ∷ codes "X" ∷ [])) }
 {
     put_factor(knowns, t, out)?;
     put_word(b"*", out)?;
@@ -49,7 +53,8 @@ fn put_left_product(knowns: &[Operand], t: Factor, out: &mut Vec<u8>) -> Result<
 
 /// Appends `X * T`.
 fn put_right_product(knowns: &[Operand], t: Factor, out: &mut Vec<u8>) -> Result<(), AllocError>
-    ensures { OnOk result (out.new.items ≡ out.old.items ++ words_text (codes "X" ∷ codes "*" ∷ factor_words (map (λ o. o.name) knowns.now) t)) }
+    ensures { OnOk result (out.new.items ≡ out.old.items ++ words_text
+        (codes "X" ∷ codes "*" ∷ factor_words (map (λ o. o.name) knowns.now) t)) }
 {
     put_word(b"X", out)?;
     put_word(b"*", out)?;
@@ -59,7 +64,8 @@ fn put_right_product(knowns: &[Operand], t: Factor, out: &mut Vec<u8>) -> Result
 
 /// Appends `lu X` or `ldl X`.
 fn put_factors(word: &[u8], out: &mut Vec<u8>) -> Result<(), AllocError>
-    ensures { OnOk result (out.new.items ≡ out.old.items ++ words_text (word.now ∷ codes "X" ∷ [])) }
+    ensures { OnOk result (out.new.items ≡ out.old.items ++ words_text
+        (word.now ∷ codes "X" ∷ [])) }
 {
     put_word(word, out)?;
     put_word(b"X", out)?;
@@ -68,7 +74,8 @@ fn put_factors(word: &[u8], out: &mut Vec<u8>) -> Result<(), AllocError>
 
 /// Appends the left side of an equation.
 fn put_left(knowns: &[Operand], form: Form, out: &mut Vec<u8>) -> Result<(), AllocError>
-    ensures { OnOk result (out.new.items ≡ out.old.items ++ words_text (left_words (map (λ o. o.name) knowns.now) form)) }
+    ensures { OnOk result (out.new.items ≡ out.old.items ++ words_text
+        (left_words (map (λ o. o.name) knowns.now) form)) }
 {
     match form {
         Form::Assign => Ok(put_word(b"X", out)?),

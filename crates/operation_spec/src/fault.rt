@@ -1,7 +1,8 @@
 ghost use Rattle.std.specs.Prelude.{◌≡◌};
-ghost use Rattle.operation_spec.specs.declared.fault.SpecFault.TheVariants.{Memory};
+ghost use Rattle.operation_spec.specs.declared.fault.SpecFault.TheVariants.{Memory, Syntax};
 
 use std::alloc::{AllocError, AllocFailed};
+use text_scan::TextEnd;
 
 /// Why lines were not read as an operation. Each fault of the text has the number of its line.
 #[derive(Clone, Copy, Debug, PartialEq, Eq)]
@@ -40,5 +41,13 @@ impl<T: Drop> From<AllocFailed<T>> for SpecFault {
 
     fn from(_e: AllocFailed<T>) -> SpecFault {
         SpecFault::Memory
+    }
+}
+
+impl From<TextEnd> for SpecFault {
+    ghost from_gives = { λ end e. e ≡ Syntax end.line };
+
+    fn from(end: TextEnd) -> SpecFault {
+        SpecFault::Syntax { line: end.line }
     }
 }

@@ -26,11 +26,13 @@ pub fn read_operations_are_spelled()
 
 /// Each line of an operation that has names and dimensions has words, so that its normal text can be read again.
 pub fn printed_operations_are_lines()
-    ensures { (op : Operation) → IsValid op → HasNames op → All (λ words. IsTrue (is_line words)) (operation_lines op) }
+    ensures { (op : Operation) → IsValid op → HasNames op
+        → All (λ words. IsTrue (is_line words)) (operation_lines op) }
 {}
 
 /// Scanning the normal text of a valid operation with names gives lines that spell it.
 pub fn printed_operations_are_spelled()
     ensures { (op : Operation) → IsValid op → HasNames op → (tokens : List Token)
-        × (tokens_of 1 (lines_text (operation_lines op)) ≡ Ok tokens) × SpellsOperation (lines_of (lines_text (operation_lines op)) tokens) op [] }
+        × (tokens_of 1 (lines_text (operation_lines op)) ≡ Ok tokens)
+        × SpellsOperation (lines_of (lines_text (operation_lines op)) tokens) op [] }
 {}

@@ -15,7 +15,8 @@ fn put_operand(
     operand: &Operand,
     out: &mut Vec<u8>,
 ) -> Result<(), AllocError>
-    ensures { OnOk result (out.new.items ≡ out.old.items ++ line_text (operand_line dims.now word.now operand.now)) }
+    ensures { OnOk result (out.new.items ≡ out.old.items ++ line_text
+        (operand_line dims.now word.now operand.now)) }
 {
     out.extend_from_slice(word)?;
     put_word(operand.name.as_slice(), out)?;
@@ -27,7 +28,8 @@ fn put_operand(
 }
 
 fn put_knowns(dims: &[Name], knowns: &[Operand], out: &mut Vec<u8>) -> Result<(), AllocError>
-    ensures { OnOk result (out.new.items ≡ out.old.items ++ lines_text (map (operand_line dims.now (codes "known")) knowns.now)) }
+    ensures { OnOk result (out.new.items ≡ out.old.items ++ lines_text
+        (map (operand_line dims.now (codes "known")) knowns.now)) }
 {
     for known in knowns {
         put_operand(dims, b"known", known, out)?;
@@ -36,7 +38,8 @@ fn put_knowns(dims: &[Name], knowns: &[Operand], out: &mut Vec<u8>) -> Result<()
 }
 
 fn put_name_line(name: &Name, out: &mut Vec<u8>) -> Result<(), AllocError>
-    ensures { OnOk result (out.new.items ≡ out.old.items ++ line_text (codes "operation" ∷ name.now ∷ [])) }
+    ensures { OnOk result (out.new.items ≡ out.old.items ++ line_text
+        (codes "operation" ∷ name.now ∷ [])) }
 {
     out.extend_from_slice(b"operation")?;
     put_word(name.as_slice(), out)?;
@@ -54,7 +57,8 @@ fn put_dims_line(dims: &[Name], out: &mut Vec<u8>) -> Result<(), AllocError>
 }
 
 fn put_equation_line(op: &Operation, out: &mut Vec<u8>) -> Result<(), AllocError>
-    ensures { OnOk result (out.new.items ≡ out.old.items ++ line_text (codes "equation" ∷ equation_words op.now)) }
+    ensures { OnOk result (out.new.items ≡ out.old.items ++ line_text
+        (codes "equation" ∷ equation_words op.now)) }
 {
     out.extend_from_slice(b"equation")?;
     put_equation(op, out)?;
@@ -79,7 +83,8 @@ fn put_operation(op: &Operation, out: &mut Vec<u8>) -> Result<(), AllocError>
 /// Appends the normal text of an operation, its block of lines. Its one error is want of memory, and then
 /// nothing is appended: the text is composed apart from `out` first.
 pub fn write_operation(alloc: Global, op: &Operation, out: &mut Vec<u8>) -> Result<(), AllocError>
-    ensures ok { OnOk result (out.new.items ≡ out.old.items ++ lines_text (operation_lines op.now)) }
+    ensures ok { OnOk result (out.new.items ≡ out.old.items ++ lines_text
+        (operation_lines op.now)) }
     ensures err { OnErr result (out.new.items ≡ out.old.items) }
 {
     let mut text = Vec::new(alloc);

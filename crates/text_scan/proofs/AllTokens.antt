@@ -11,9 +11,8 @@ use Rattle.text_scan.specs.declared.token.TokenKind.{TokenKind}
 use Rattle.text_scan.specs.declared.token.TokenKind.TheVariants.{Sign}
 use Rattle.text_scan.specs.declared.token.Front.{Front}
 use Rattle.text_scan.specs.declared.token.Front.TheVariants as fronts
-use Rattle.text_scan.specs.declared.token.ScanFault.{ScanFault}
 use Rattle.text_scan.specs.Lines.{end_line_of}
-use Rattle.text_scan.specs.Tokens.{front_of, is_blank, with_front, line_behind, tokens_from, tokens_of}
+use Rattle.text_scan.specs.Tokens.{BadByte, front_of, is_blank, with_front, line_behind, tokens_from, tokens_of}
 use Rattle.text_scan.specs.Tokenization.{IsInComment, IsInToken, IsInSome, IsWhole, AreAllTokens}
 use Rattle.text_scan.proofs.Comments.{goes_on-hash, IsInComment-here, IsOpen, IsOpen-first, IsOpen-next, outside_comments, line_behind-piece}
 use Rattle.text_scan.proofs.Pieces.{IsPiece, tokens_from_piece, by_pieces}
@@ -94,7 +93,7 @@ blank_piece text at len p piece from before = elim (cases_lt at p) [
 ]
 
 -- what is answered from a piece on, where this is what is answered behind it
-by_front : (first_line : ℕ) (text : List ℕ) (at line : ℕ) (front : Front) (len : ℕ) (read : Result (List Token) ScanFault) (tokens : List Token) → at < length text → IsPiece text at front len → IsOpen text at → line ≡ end_line_of first_line (take at text)
+by_front : (first_line : ℕ) (text : List ℕ) (at line : ℕ) (front : Front) (len : ℕ) (read : Result (List Token) BadByte) (tokens : List Token) → at < length text → IsPiece text at front len → IsOpen text at → line ≡ end_line_of first_line (take at text)
     → ((tokens : List Token) → read ≡ Ok tokens → AreAllFrom first_line text (at + len) tokens) → with_front front at len line read ≡ Ok tokens → AreAllFrom first_line text at tokens
 by_front first_line text at line fronts.Bad len read tokens lt piece is_open on_line rest e = absurd cc
 by_front first_line text at line fronts.Blank len read tokens lt piece is_open on_line rest e =
@@ -117,7 +116,7 @@ Answered first_line text at line = IsOpen text at → line ≡ end_line_of first
 none_left : (first_line : ℕ) (text : List ℕ) (at line : ℕ) → length text ≤ at → Answered first_line text at line
 unfolding tokens_from
 none_left first_line text at line le is_open on_line tokens e =
-    let none : ◌≡◌ {A = Result (List Token) ScanFault} (Ok []) (Ok tokens) = ap (tokens_from 0 at line) (sym (drop_all at text le)) ∙ e in
+    let none : ◌≡◌ {A = Result (List Token) BadByte} (Ok []) (Ok tokens) = ap (tokens_from 0 at line) (sym (drop_all at text le)) ∙ e in
     subst (AreAllFrom first_line text at) (same_ok [] tokens none) (AreAllFrom-none first_line text at le)
 
 -- a piece, and what is behind it

@@ -1,16 +1,14 @@
 -- What a scan answers as the bad byte is the first one: the bytes before it have tokens, and it is in none of them, in no
 -- comment and no blank.
-use Rattle.std.proofs.Common.{◌≡◌, ◌≢◌, ℕ, ◌+◌, ◌<◌, ◌≤◌, false, List, [], ◌∷◌, length, get_or, take, drop, Result, Ok, Err, All, refl, sym, ap, subst, ◌∙◌, arith, get_or-take}
+use Rattle.std.proofs.Common.{◌≡◌, ℕ, ◌+◌, ◌<◌, ◌≤◌, false, List, [], ◌∷◌, length, get_or, take, drop, Result, Ok, Err, All, refl, sym, ap, subst, ◌∙◌, arith, get_or-take}
 use Rattle.std.proofs.lemmas.List.{drop_all, length-take-le}
 use Rattle.std.proofs.lemmas.List.Elements.{All-nil, All-cons}
 use Rattle.text_scan.specs.declared.token.Token.{Token}
 use Rattle.text_scan.specs.declared.token.TokenKind.{TokenKind}
 use Rattle.text_scan.specs.declared.token.Front.{Front}
 use Rattle.text_scan.specs.declared.token.Front.TheVariants as fronts
-use Rattle.text_scan.specs.declared.token.ScanFault.{ScanFault}
-use Rattle.text_scan.specs.declared.token.ScanFault.TheVariants.{Memory, BadByte}
 use Rattle.text_scan.specs.Lines.{end_line_of}
-use Rattle.text_scan.specs.Tokens.{front_of, with_front, line_behind, tokens_from, tokens_of}
+use Rattle.text_scan.specs.Tokens.{BadByte, front_of, with_front, line_behind, tokens_from, tokens_of}
 use Rattle.text_scan.specs.Tokenization.{IsInComment, goes_on, IsFirstBad}
 use Rattle.text_scan.proofs.Comments.{IsOpen, IsOpen-first, IsOpen-next, outside_comments, line_behind-piece}
 use Rattle.text_scan.proofs.Pieces.{IsPiece, goes_with, tokens_from_piece, by_pieces}
@@ -66,10 +64,11 @@ IsBadFrom-here first_line text at line len lt piece is_open on_line = record {
 }
 
 -- the byte itself, by what was answered
-IsBadFrom-answered : (first_line : ℕ) (text : List ℕ) (at line bad bad_line : ℕ) → ◌≡◌ {A = Result (List Token) ScanFault} (Err (BadByte at line)) (Err (BadByte bad bad_line)) → IsBadFrom first_line text at line at line → IsBadFrom first_line text at line bad bad_line
+IsBadFrom-answered : (first_line : ℕ) (text : List ℕ) (at line bad bad_line : ℕ) → ◌≡◌ {A = Result (List Token) BadByte} (Err (record { at = at; line = line })) (Err (record { at = bad; line = bad_line })) → IsBadFrom first_line text at line at line → IsBadFrom first_line text at line bad bad_line
 IsBadFrom-answered first_line text at line bad bad_line e here =
-    let same : at ≡ bad = cc in
-    let same_line : line ≡ bad_line = cc in
+    let both : ◌≡◌ {A = BadByte} (record { at = at; line = line }) (record { at = bad; line = bad_line }) = cc in
+    let same = ap (λ (b : BadByte). b.at) both in
+    let same_line = ap (λ (b : BadByte). b.line) both in
     subst (λ l. IsBadFrom first_line text at line bad l) same_line (subst (λ b. IsBadFrom first_line text at line b line) same here)
 
 -- tokens from a place on, with what is before them, and the rest as it was
@@ -89,7 +88,7 @@ IsBadFrom-before first_line text at line at' line' bad bad_line tokens le rest a
 -- ---- one piece
 
 -- the fault behind a token
-behind_token : (kind : TokenKind) (at len line : ℕ) (read : Result (List Token) ScanFault) (fault : ScanFault) → with_front (fronts.Token kind) at len line read ≡ Err fault → read ≡ Err fault
+behind_token : (kind : TokenKind) (at len line : ℕ) (read : Result (List Token) BadByte) (fault : BadByte) → with_front (fronts.Token kind) at len line read ≡ Err fault → read ≡ Err fault
 behind_token kind at len line (Ok tokens) fault e = absurd cc
 behind_token kind at len line (Err other) fault e = e
 
@@ -106,12 +105,12 @@ IsBadFrom-token first_line text at line kind len bad bad_line piece rest =
 
 -- what is answered of the bytes from a place on
 abbrev Answered : ℕ → List ℕ → ℕ → ℕ → Type 0
-Answered first_line text at line = IsOpen text at → line ≡ end_line_of first_line (take at text) → (bad bad_line : ℕ) → tokens_from 0 at line (drop at text) ≡ Err (BadByte bad bad_line) → IsBadFrom first_line text at line bad bad_line
+Answered first_line text at line = IsOpen text at → line ≡ end_line_of first_line (take at text) → (bad bad_line : ℕ) → tokens_from 0 at line (drop at text) ≡ Err (record { at = bad; line = bad_line }) → IsBadFrom first_line text at line bad bad_line
 
 -- what is answered from a piece on, where this is what is answered behind it
-by_front : (first_line : ℕ) (text : List ℕ) (at line : ℕ) (front : Front) (len : ℕ) (read : Result (List Token) ScanFault) (bad bad_line : ℕ) → at < length text → IsPiece text at front len → IsOpen text at → line ≡ end_line_of first_line (take at text)
-    → (read ≡ Err (BadByte bad bad_line) → IsBadFrom first_line text (at + len) (line_behind (get_or text at 0) line) bad bad_line)
-    → with_front front at len line read ≡ Err (BadByte bad bad_line) → IsBadFrom first_line text at line bad bad_line
+by_front : (first_line : ℕ) (text : List ℕ) (at line : ℕ) (front : Front) (len : ℕ) (read : Result (List Token) BadByte) (bad bad_line : ℕ) → at < length text → IsPiece text at front len → IsOpen text at → line ≡ end_line_of first_line (take at text)
+    → (read ≡ Err (record { at = bad; line = bad_line }) → IsBadFrom first_line text (at + len) (line_behind (get_or text at 0) line) bad bad_line)
+    → with_front front at len line read ≡ Err (record { at = bad; line = bad_line }) → IsBadFrom first_line text at line bad bad_line
 by_front first_line text at line fronts.Bad len read bad bad_line lt piece is_open on_line behind e =
     IsBadFrom-answered first_line text at line bad bad_line e (IsBadFrom-here first_line text at line len lt piece is_open on_line)
 by_front first_line text at line fronts.Blank len read bad bad_line lt piece is_open on_line behind e =
@@ -123,7 +122,7 @@ by_front first_line text at line fronts.Comment len read bad bad_line lt piece i
     let inside : bad < length text = rest.inside in
     IsBadFrom-before first_line text at line (at + len) _ bad bad_line rest.tokens (omega arith) rest (tokens_before text at line fronts.Comment len bad piece rest.after (omega arith) ∙ rest.are) rest.ended
 by_front first_line text at line (fronts.Token kind) len read bad bad_line lt piece is_open on_line behind e =
-    IsBadFrom-token first_line text at line kind len bad bad_line piece (behind (behind_token kind at len line read (BadByte bad bad_line) e))
+    IsBadFrom-token first_line text at line kind len bad bad_line piece (behind (behind_token kind at len line read (record { at = bad; line = bad_line }) e))
 
 -- ---- all pieces
 
@@ -131,7 +130,7 @@ by_front first_line text at line (fronts.Token kind) len read bad bad_line lt pi
 none_left : (first_line : ℕ) (text : List ℕ) (at line : ℕ) → length text ≤ at → Answered first_line text at line
 unfolding tokens_from
 none_left first_line text at line le is_open on_line bad bad_line e =
-    let none : ◌≡◌ {A = Result (List Token) ScanFault} (Ok []) (Err (BadByte bad bad_line)) = ap (tokens_from 0 at line) (sym (drop_all at text le)) ∙ e in
+    let none : ◌≡◌ {A = Result (List Token) BadByte} (Ok []) (Err (record { at = bad; line = bad_line })) = ap (tokens_from 0 at line) (sym (drop_all at text le)) ∙ e in
     absurd cc
 
 -- a piece, and what is behind it
@@ -142,7 +141,7 @@ one_piece first_line text at line front len lt piece behind is_open on_line bad 
     (sym (tokens_from_piece text at line front len lt piece) ∙ e)
 
 -- the bad byte that a scan answers
-pub IsFirstBad-scanned : (first_line : ℕ) (bytes : List ℕ) (at line : ℕ) → tokens_of first_line bytes ≡ Err (BadByte at line) → IsFirstBad first_line bytes at line
+pub IsFirstBad-scanned : (first_line : ℕ) (bytes : List ℕ) (at line : ℕ) → tokens_of first_line bytes ≡ Err (record { at = at; line = line }) → IsFirstBad first_line bytes at line
 IsFirstBad-scanned first_line bytes at line e =
     let is = by_pieces bytes (Answered first_line bytes) (none_left first_line bytes) (one_piece first_line bytes) 0 first_line (IsOpen-first bytes) (omega arith) at line e in
     record {
@@ -152,20 +151,3 @@ IsFirstBad-scanned first_line bytes at line e =
       bad = is.is_bad;
       on_line = is.on_line;
     }
-
--- ---- no other fault
-
--- a piece adds none
-no_memory_by_front : (front : Front) (at len line : ℕ) (read : Result (List Token) ScanFault) → read ≢ Err Memory → with_front front at len line read ≢ Err Memory
-no_memory_by_front fronts.Bad at len line read other e = absurd cc
-no_memory_by_front fronts.Blank at len line read other e = other e
-no_memory_by_front fronts.Comment at len line read other e = other e
-no_memory_by_front (fronts.Token kind) at len line read other e = other (behind_token kind at len line read Memory e)
-
--- a text doesn't want memory
-pub tokens_of-no_memory : (first_line : ℕ) (bytes : List ℕ) → tokens_of first_line bytes ≢ Err Memory
-unfolding tokens_from
-tokens_of-no_memory first_line bytes = by_pieces bytes (λ at line. tokens_from 0 at line (drop at bytes) ≢ Err Memory)
-    (λ at line le e. let none : ◌≡◌ {A = Result (List Token) ScanFault} (Ok []) (Err Memory) = ap (tokens_from 0 at line) (sym (drop_all at bytes le)) ∙ e in absurd cc)
-    (λ at line front len lt piece other e. no_memory_by_front front at len line _ other (sym (tokens_from_piece bytes at line front len lt piece) ∙ e))
-    0 first_line

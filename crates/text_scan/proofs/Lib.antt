@@ -5,6 +5,7 @@ pub mod FirstBadBytes
 pub mod FirstLines
 pub mod LineFeeds
 pub mod LineOrders
+pub mod LinesLeft
 pub mod NormalScans
 pub mod NumberTexts
 pub mod NumberWords
@@ -12,7 +13,6 @@ pub mod NumberedLines
 pub mod Pieces
 pub mod ScannedTokens
 mod Steps
-pub mod TokenEnds
 pub mod TokenParts
 pub mod WordFronts
 mod WorkedTokenization

@@ -12,10 +12,9 @@ use Rattle.text_scan.specs.declared.token.TokenKind.{TokenKind}
 use Rattle.text_scan.specs.declared.token.TokenKind.TheVariants.{Name, Number, Sign}
 use Rattle.text_scan.specs.declared.token.Front.{Front}
 use Rattle.text_scan.specs.declared.token.Front.TheVariants as fronts
-use Rattle.text_scan.specs.declared.token.ScanFault.{ScanFault}
 use Rattle.text_scan.specs.Lines.{end_line_of}
 use Rattle.text_scan.specs.Scanned.{AreTokens}
-use Rattle.text_scan.specs.Tokens.{front_of, behind, is_name_byte, with_front, line_behind, tokens_from, tokens_of}
+use Rattle.text_scan.specs.Tokens.{BadByte, front_of, behind, is_name_byte, with_front, line_behind, tokens_from, tokens_of}
 use Rattle.text_scan.specs.Words.{word, is_word, kind_of}
 use Rattle.text_scan.proofs.LineFeeds.{line_feeds}
 use Rattle.text_scan.proofs.TokenParts.{IsTokenOf}
@@ -100,7 +99,7 @@ Behind-cons first_line text from line t tokens ends on is behind =
 -- ---- one step
 
 -- a token that was found before others
-pub found : (kind : TokenKind) (at len line : ℕ) (read : Result (List Token) ScanFault) (tokens : List Token) → with_front (fronts.Token kind) at len line read ≡ Ok tokens
+pub found : (kind : TokenKind) (at len line : ℕ) (read : Result (List Token) BadByte) (tokens : List Token) → with_front (fronts.Token kind) at len line read ≡ Ok tokens
     → (rest : List Token) × (read ≡ Ok rest) × (record { kind = kind; start = at; len = len; line = line } ∷ rest ≡ tokens)
 found kind at len line (Ok rest) tokens e = (rest, refl, cc)
 found kind at len line (Err fault) tokens e = absurd cc
@@ -143,7 +142,7 @@ by_front first_line text at line b bytes (fronts.Token kind) tokens front place 
 
 -- ---- all bytes
 
-none_left : (first_line : ℕ) (text : List ℕ) (from line : ℕ) (tokens : List Token) → ◌≡◌ {A = Result (List Token) ScanFault} (Ok []) (Ok tokens) → Behind first_line text from line tokens
+none_left : (first_line : ℕ) (text : List ℕ) (from line : ℕ) (tokens : List Token) → ◌≡◌ {A = Result (List Token) BadByte} (Ok []) (Ok tokens) → Behind first_line text from line tokens
 none_left first_line text from line tokens e = subst (Behind first_line text from line) (same_ok [] tokens e) (Behind-none first_line text from line)
 
 scanned_from : (first_line : ℕ) (text : List ℕ) (at line : ℕ) (bytes : List ℕ) → Place first_line text at line bytes → Answered first_line text at line bytes

@@ -1,10 +1,8 @@
 -- One step of the scanner.
-use Rattle.std.proofs.Common.{◌≡◌, ℕ, zero, suc, ◌+◌, ◌<◌, ◌≤◌, List, [], ◌∷◌, length, get_or, drop, Result, Ok, Option, Some, None, refl, ap, ◌∙◌, append-nil, arith}
+use Rattle.std.proofs.Common.{◌≡◌, ℕ, zero, suc, ◌+◌, ◌<◌, ◌≤◌, List, [], ◌∷◌, length, get_or, drop, Ok, refl, ap, ◌∙◌, append-nil, arith}
 use Rattle.std.proofs.lemmas.List.{drop_more, drop-drop, drop_all}
 use Rattle.text_scan.specs.declared.token.Token.{Token}
-use Rattle.text_scan.specs.declared.token.ScanFault.{ScanFault}
 use Rattle.text_scan.specs.Tokens.{front_of, behind, with_front, line_behind, tokens_from, with_found}
-use Rattle.byte_texts.specs.Reading.{EndsWith}
 
 pub passed_over : (k at line : ℕ) (bytes : List ℕ) → tokens_from k at line bytes ≡ tokens_from 0 (at + k) line (drop k bytes)
 unfolding tokens_from
@@ -32,8 +30,3 @@ pub at_piece : (at line : ℕ) (bytes : List ℕ) (b len : ℕ) → at < length 
 at_piece at line bytes b len lt b_is len_is =
     let k = behind (front_of b) (drop 1 (drop at bytes)) in
     rw len_is (at_place at line bytes b k lt b_is (ap (behind (front_of b)) (drop-drop 1 at bytes)))
-
--- the fault of an answer, along equal readings
-pub EndsWith-along : (fault : Option ScanFault) (r q : Result (List Token) ScanFault) → r ≡ q → EndsWith fault q → EndsWith fault r
-EndsWith-along None r q same ends = tt
-EndsWith-along (Some f) r q same ends = same ∙ ends

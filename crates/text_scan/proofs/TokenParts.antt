@@ -1,13 +1,12 @@
 -- What holds of one of a text's tokens; the tokens behind some of them, and those in front of others, are tokens of
 -- the text, too. Cited by what reads line by line.
 use Rattle.std.proofs.Common.{◌≡◌, ℕ, ◌+◌, ◌<◌, ◌≤◌, Bool, true, false, cond, ◌==◌, List, [], ◌∷◌, ◌++◌, length, take, drop, get_or, slice_get, Some, refl, sym, ap, subst, ◌∙◌, arith, length-drop, length-take, get_or-drop, get_or-take, All, AllPairs, IsTrue}
-use Rattle.std.specs.List.{sum_by}
-use Rattle.std.proofs.lemmas.List.{take_at, drop_at}
+use Rattle.std.proofs.lemmas.List.{drop_at}
 use Rattle.std.proofs.lemmas.List.Sums.{sum_by-cons}
-use Rattle.std.proofs.lemmas.List.Elements.{All-drop, All-take}
+use Rattle.std.proofs.lemmas.List.Elements.{All-drop}
 use Rattle.std.proofs.lemmas.Option.{slice_get_within, get_or_from_slice_get}
 use Rattle.text_scan.specs.declared.token.Token.{Token}
-use Rattle.text_scan.specs.Lines.{Line, with_word, lines_of, end_line_of}
+use Rattle.text_scan.specs.Lines.{Line, with_word, lines_of, end_line_of, word_count}
 use Rattle.text_scan.specs.Scanned.{AreTokens}
 use Rattle.text_scan.specs.Words.{word, is_word, kind_of}
 
@@ -69,16 +68,6 @@ by_part {first_line} {bytes} part each pairs are = record {
 pub AreTokens-drop : {first_line : ℕ} {bytes : List ℕ} {tokens : List Token} (k : ℕ) → AreTokens first_line bytes tokens → AreTokens first_line bytes (drop k tokens)
 AreTokens-drop {tokens = tokens} k are = by_part (drop k tokens) (λ P. All-drop P k tokens) (λ R. AllPairs-drop R k tokens) are
 
--- the first k
-pub AreTokens-take : {first_line : ℕ} {bytes : List ℕ} {tokens : List Token} (k : ℕ) → AreTokens first_line bytes tokens → AreTokens first_line bytes (take k tokens)
-AreTokens-take {tokens = tokens} k are = by_part (take k tokens) (λ P. All-take P k tokens) (λ R. AllPairs-take R k tokens) are
-
--- the front of a split
-pub AreTokens-front : {first_line : ℕ} {bytes : List ℕ} {tokens : List Token} (front back : List Token) → tokens ≡ front ++ back → AreTokens first_line bytes tokens → AreTokens first_line bytes front
-AreTokens-front {first_line} {bytes} front back split are =
-    let part : take (length front) _ ≡ front = ap (take (length front)) split ∙ take_at front back (length front) refl in
-    subst (AreTokens first_line bytes) part (AreTokens-take (length front) are)
-
 -- what is behind it
 pub AreTokens-back : {first_line : ℕ} {bytes : List ℕ} {tokens : List Token} (front back : List Token) → tokens ≡ front ++ back → AreTokens first_line bytes tokens → AreTokens first_line bytes back
 AreTokens-back {first_line} {bytes} front back split are =
@@ -86,9 +75,6 @@ AreTokens-back {first_line} {bytes} front back split are =
     subst (AreTokens first_line bytes) part (AreTokens-drop (length front) are)
 
 -- ---- how many words lines have
-
-abbrev pub word_count : List Line → ℕ
-word_count lines = sum_by (λ (line : Line). length line.words) lines
 
 one_line_more : (line : Line) (lines : List Line) → word_count (line ∷ lines) ≡ length line.words + word_count lines
 one_line_more line lines = sum_by-cons (λ (line : Line). length line.words) line lines

@@ -1,9 +1,12 @@
-pub mod Ends
+pub mod FaultKinds
 pub mod Faults
+pub mod Left
 pub mod LineOrder
 pub mod Lines
+pub mod Names
 pub mod NormalTexts
 pub mod Scanned
+pub mod TokenWords
 pub mod Tokenization
 pub mod Tokens
 pub mod Words

@@ -8,7 +8,9 @@ use Rattle.text_scan.specs.declared.token.TokenKind.TheVariants.{Name, Number, S
 use Rattle.text_scan.specs.declared.token.Front.{Front}
 use Rattle.text_scan.specs.declared.token.Front.TheVariants as fronts
 use Rattle.text_scan.specs.declared.token.ScanFault.{ScanFault}
-use Rattle.text_scan.specs.declared.token.ScanFault.TheVariants.{Memory, BadByte}
+use Rattle.text_scan.specs.declared.token.ScanFault.TheVariants as scan_faults
+use Rattle.text_scan.specs.Faults.{Fault, ◌on◌}
+use Rattle.text_scan.specs.FaultKinds as kinds
 
 -- letters, digits and _
 abbrev pub is_name_byte : ℕ → Bool
@@ -39,9 +41,14 @@ behind (fronts.Token Sign) bytes = 0
 behind fronts.Blank bytes = 0
 behind fronts.Bad bytes = 0
 
+-- a byte that is in no token, no blank and no comment: its place, and its line
+pub record BadByte : Type 0 where
+  pub at : ℕ
+  pub line : ℕ
+
 -- what begins at a place of a line and is so long, before the tokens behind it
-abbrev pub with_front : Front → ℕ → ℕ → ℕ → Result (List Token) ScanFault → Result (List Token) ScanFault
-with_front fronts.Bad at len line tokens = Err (BadByte at line)
+abbrev pub with_front : Front → ℕ → ℕ → ℕ → Result (List Token) BadByte → Result (List Token) BadByte
+with_front fronts.Bad at len line tokens = Err (record { at = at; line = line })
 with_front fronts.Blank at len line tokens = tokens
 with_front fronts.Comment at len line tokens = tokens
 with_front (fronts.Token kind) at len line (Ok tokens) = Ok (record { kind = kind; start = at; len = len; line = line } ∷ tokens)
@@ -52,22 +59,34 @@ abbrev pub line_behind : ℕ → ℕ → ℕ
 line_behind b line = if b == 10 then line + 1 else line
 
 -- the tokens of the bytes, of which so many go with what began before them; the first byte is at a place of a line
-unfoldable pub tokens_from : ℕ → ℕ → ℕ → List ℕ → Result (List Token) ScanFault
+unfoldable pub tokens_from : ℕ → ℕ → ℕ → List ℕ → Result (List Token) BadByte
 tokens_from passed at line [] = Ok []
 tokens_from (suc passed) at line (b ∷ bytes) = tokens_from passed (at + 1) line bytes
 tokens_from zero at line (b ∷ bytes) =
     with_front (front_of b) at (behind (front_of b) bytes + 1) line (tokens_from (behind (front_of b) bytes) (at + 1) (line_behind b line) bytes)
 
 -- the tokens of the bytes, the first of which is on a line; or the first bad byte
-abbrev pub tokens_of : ℕ → List ℕ → Result (List Token) ScanFault
+abbrev pub tokens_of : ℕ → List ℕ → Result (List Token) BadByte
 tokens_of first_line bytes = tokens_from 0 0 first_line bytes
 
 -- tokens that were found before those that are read
-abbrev pub with_found : List Token → Result (List Token) ScanFault → Result (List Token) ScanFault
+abbrev pub with_found : List Token → Result (List Token) BadByte → Result (List Token) BadByte
 with_found found (Ok tokens) = Ok (found ++ tokens)
 with_found found (Err fault) = Err fault
 
--- want of memory is no fault of the text
-abbrev pub text_fault : ScanFault → Option ScanFault
-text_fault Memory = None
-text_fault (BadByte at line) = Some (BadByte at line)
+-- ---- faults
+
+-- the tokens, or the first bad byte as a fault of the text
+abbrev pub scanned : Result (List Token) BadByte → Result (List Token) Fault
+scanned (Ok tokens) = Ok tokens
+scanned (Err bad) = Err (kinds.BadByte on bad.line)
+
+-- the bad byte that an error of a scan names; want of memory names none
+abbrev pub bad_byte : ScanFault → Option BadByte
+bad_byte scan_faults.Memory = None
+bad_byte (scan_faults.BadByte at line) = Some (record { at = at; line = line })
+
+-- the same as a fault of the text
+abbrev pub scan_fault : ScanFault → Option Fault
+scan_fault scan_faults.Memory = None
+scan_fault (scan_faults.BadByte at line) = Some (kinds.BadByte on line)

@@ -3,8 +3,7 @@ ghost use Rattle.std.specs.List.{prefix_len};
 ghost use Rattle.std.specs.Char.{is_ascii_digit};
 ghost use Rattle.byte_texts.specs.Reading.{EndsWith, Gives};
 ghost use Rattle.text_scan.specs.declared.token.Token.{Token};
-ghost use Rattle.text_scan.specs.declared.token.ScanFault.{ScanFault};
-ghost use Rattle.text_scan.specs.Tokens.{front_of, behind, is_name_byte, is_comment_byte, line_behind, tokens_of, text_fault, with_found, with_front};
+ghost use Rattle.text_scan.specs.Tokens.{BadByte, front_of, behind, is_name_byte, is_comment_byte, line_behind, tokens_of, bad_byte, with_found, with_front};
 
 use crate::token::{Front, ScanFault, Token, TokenKind};
 use std::alloc::Global;
@@ -66,8 +65,11 @@ fn piece_len(front: Front, bytes: &[u8]) -> usize
 
 /// Keeps the token, if one begins at the place.
 fn keep(front: Front, at: u32, len: u32, line: u32, found: &mut Vec<Token>) -> Result<(), ScanFault>
-    ensures ok { OnOk result ((rest : Result (List Token) ScanFault) → with_found found.old.items (with_front front at len line rest) ≡ with_found found.new.items rest) }
-    ensures err { IfErr result (λ e. (rest : Result (List Token) ScanFault) → EndsWith (text_fault e) (with_found found.old.items (with_front front at len line rest))) }
+    ensures ok { OnOk result ((rest : Result (List Token) BadByte)
+        → with_found found.old.items (with_front front at len line rest)
+        ≡ with_found found.new.items rest) }
+    ensures err { IfErr result (λ e. (rest : Result (List Token) BadByte)
+        → EndsWith (bad_byte e) (with_found found.old.items (with_front front at len line rest))) }
 {
     match front {
         Front::Bad => Err(ScanFault::BadByte { at, line }),
@@ -97,7 +99,7 @@ fn next_line(b: u8, line: u32) -> u32
 pub fn scan(alloc: Global, bytes: &[u8], first_line: u32) -> Result<Vec<Token>, ScanFault>
     requires short { length bytes.now ≤ 67108865 }
     requires low { first_line ≤ 67108865 }
-    ensures { Gives text_fault (λ tokens. tokens.items) result (tokens_of first_line bytes.now) }
+    ensures { Gives bad_byte (λ tokens. tokens.items) result (tokens_of first_line bytes.now) }
 {
     let mut found = Vec::new(alloc);
     let mut at = 0;

@@ -108,7 +108,7 @@ fn numbers_below_the_limit(rt: HostRuntime) {
     }
 }
 
-// The number of the line that is due, and how many tokens it has and leaves, where another is due behind it
+// The number of the line that is due, and how many words it has and leaves, where another is due behind it
 // or not; or where the text ends.
 fn line_in(alloc: Global, text: &[u8], inner: bool) -> Result<(u32, usize, usize), u32>
     requires { length text.now ≤ 100 }
@@ -116,13 +116,10 @@ fn line_in(alloc: Global, text: &[u8], inner: bool) -> Result<(u32, usize, usize
     scanned_texts_have_tokens();
     match scan(alloc, text, 1) {
         Ok(tokens) => {
-            let line = if inner {
-                inner_line(1, text, tokens.as_slice())
-            } else {
-                due_line(1, text, tokens.as_slice())
-            };
+            let mut lines = Lines::new(1, text, tokens.as_slice());
+            let line = if inner { lines.inner() } else { lines.due() };
             match line {
-                Ok(line) => Ok((line.number, line.tokens.len(), line.rest.len())),
+                Ok(line) => Ok((line.number(), line.len(), lines.word_count())),
                 Err(end) => Err(end.line),
             }
         }
@@ -147,34 +144,27 @@ fn lines_and_ends(rt: HostRuntime) {
     }
 }
 
-// Whether a short text begins with a token that may stand as a name or a number.
-fn is_plain(alloc: Global, text: &[u8]) -> bool
+// The names that the words of a short text's first line are, from a place on.
+fn names_in(alloc: Global, text: &[u8], at: usize) -> Result<NameList, Fail>
     requires { length text.now ≤ 100 }
 {
     scanned_texts_have_tokens();
-    match scan(alloc, text, 1) {
-        Ok(tokens) => match tokens.first() {
-            Some(token) => token.is_name(text) || token.is_number(text),
-            None => false,
-        },
-        Err(_) => false,
+    let Ok(tokens) = scan(alloc, text, 1) else {
+        return Ok(NameList::new(alloc));
+    };
+    let mut lines = Lines::new(1, text, tokens.as_slice());
+    match lines.next_with(b"dims") {
+        Some(line) => Ok(line.behind(at).names(alloc)?),
+        None => Ok(NameList::new(alloc)),
     }
 }
 
 #[test]
-fn words_of_tokens(rt: HostRuntime) -> Result<(), Fail> {
-    let text = b"(solve";
-    let word = Token {
-        kind: TokenKind::Name,
-        start: 1,
-        len: 5,
-        line: 1,
-    };
-    assert!(rt; word.is_text(text, b"solve"));
-    assert_eq!(rt;
-        word.name(rt.alloc(), text)?.as_slice(),
-        b"solve".as_slice()
-    );
+fn words_of_lines(rt: HostRuntime) -> Result<(), Fail> {
+    let names = names_in(rt.alloc(), b"# c\ndims m 12 n'\nend\n", 2)?;
+    assert_eq!(rt; names.len(), 3);
+    assert_eq!(rt; number_of(names.as_slice(), b"n"), 1);
+    assert!(rt; is_among(names.as_slice(), b"'") && !has_twice(names.as_slice()));
     let cases: [(&[u8], bool); 5] = [
         (b"A234567890123456789012345678901_", true),
         (b"A234567890123456789012345678901_3", false),
@@ -183,8 +173,7 @@ fn words_of_tokens(rt: HostRuntime) -> Result<(), Fail> {
         (b"'", false),
     ];
     for (text, want) in cases {
-        assert!(rt; text.len() <= 100);
-        assert_eq!(rt; is_plain(rt.alloc(), text), want);
+        assert_eq!(rt; is_name(text) || is_number(text), want);
     }
     Ok(())
 }

@@ -1,7 +1,9 @@
 use Rattle.std.proofs.Common.{codes}
-use Rattle.text_scan.specs.Words.{word}
-use Rattle.matrix_text.proofs.WordLists.{heading_words}
+use Rattle.matrix_text.proofs.WordLists.{sized_numbers}
 use Rattle.job_text.proofs.after.is_block_of.Goals as goal
 
-pub is_value-requires-clause-number : goal.is_value-requires-clause-number
-is_value-requires-clause-number c = (heading_words (codes "after") (word c.args.bytes.now) c.args.tokens.now c.requires.form).rows_number _
+pub is_value-requires : goal.is_value-requires
+is_value-requires c = (sized_numbers (codes "after") c.args.line.now.words c.requires).0
+
+pub is_value-requires-then-is_value : goal.is_value-requires-then-is_value
+is_value-requires-then-is_value c = (sized_numbers (codes "after") c.args.line.now.words c.requires).1

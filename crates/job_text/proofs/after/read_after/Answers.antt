@@ -1,5 +1,5 @@
 use Rattle.std.proofs.Common.{◌<◌, length, arith}
-use Rattle.job_text.proofs.AfterKinds.{no_bad_byte}
+use Rattle.job_text.proofs.NoBadByte.{no_bad_byte}
 use Rattle.job_text.proofs.AfterPlaces.{at_end, line_below}
 use Rattle.job_text.proofs.AfterTaken.{after_found, none_found}
 use Rattle.std.proofs.lemmas.List.{take_rest}

@@ -1,5 +1,5 @@
 use Rattle.text_scan.proofs.ScannedTokens.{AreTokens-scanned}
 use Rattle.job_text.proofs.after.read_text.Goals as goal
 
-pub read_all-requires-clause-scanned : goal.read_all-requires-clause-scanned
-read_all-requires-clause-scanned c = rw c.deref.ensures.value (AreTokens-scanned c.args.first c.args.bytes.now c.in-Ok.tokens.items c.in-Ok.ensures)
+pub new-lines-requires-clause-scanned : goal.new-lines-requires-clause-scanned
+new-lines-requires-clause-scanned c = rw c.deref.ensures.value (AreTokens-scanned c.args.first c.args.bytes.now c.in-Ok.tokens.items c.in-Ok.ensures)

@@ -1,5 +1,5 @@
 use Rattle.std.proofs.Common.{◌≡◌, ◌++◌, drop}
-use Rattle.byte_texts.specs.MatrixTexts.{entry_lines}
+use Rattle.matrix_text.specs.MatrixTexts.{entry_lines}
 use Rattle.matrix_text.proofs.writing.put_entries.Given as goal
 
 abbrev pub invariant-loop-i : goal.invariant-loop-i

@@ -1,16 +1,16 @@
-use Rattle.std.proofs.Common.{◌≡◌, length}
+use Rattle.std.proofs.Common.{◌≡◌, ◌≤◌, ◌-◌, drop, length}
 use Rattle.operation_spec.specs.Equations.{products_of}
 use Rattle.operation_spec.specs.OperationFaults.{names_of}
-use Rattle.operation_spec.specs.MarkedTokens.{AreMarked, marked_words}
+use Rattle.operation_spec.specs.MarkedWords.{marked_words}
 use Rattle.operation_spec.proofs.EquationReading.{with_front}
 use Rattle.operation_spec.proofs.equation_words.products_of.Given as goal
 
 -- the products so far, and those that the words that are left say
-abbrev pub invariant-loop-rest : goal.invariant-loop-rest
-invariant-loop-rest l = record {
-  products : with_front l.products (products_of (names_of l.work l.knowns) (marked_words l.bytes l.rest)) ≡ products_of (names_of l.work l.knowns) (marked_words l.bytes l.words);
-  marked : AreMarked l.bytes l.rest;
+abbrev pub invariant-loop-at : goal.invariant-loop-at
+invariant-loop-at l = record {
+  within : l.at ≤ length l.words;
+  products : with_front l.products (products_of (names_of l.work l.knowns) (marked_words (drop l.at l.words))) ≡ products_of (names_of l.work l.knowns) (marked_words l.words);
 }
 
-abbrev pub decreases-loop-rest : goal.decreases-loop-rest
-decreases-loop-rest l = length l.rest
+abbrev pub decreases-loop-at : goal.decreases-loop-at
+decreases-loop-at l = length l.words - l.at

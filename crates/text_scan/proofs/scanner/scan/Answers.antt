@@ -2,7 +2,8 @@ use Rattle.std.proofs.Common.{◌+◌, arith, refl, get_or, drop, sym, ap, ◌�
 use Rattle.std.proofs.lemmas.List.{take_rest}
 use Rattle.std.proofs.lemmas.Result.{err_from_is_err_and}
 use Rattle.text_scan.specs.Tokens.{with_found, tokens_from, line_behind}
-use Rattle.text_scan.proofs.Steps.{at_piece, all_found, EndsWith-along}
+use Rattle.byte_texts.proofs.Binding.{EndsWith-along}
+use Rattle.text_scan.proofs.Steps.{at_piece, all_found}
 use Rattle.text_scan.proofs.scanner.scan.Goals as goal
 
 pub returns-in_err-keep : goal.returns-in_err-keep
