@@ -66,9 +66,3 @@ pub record IsFirstLong (job : Job) (b s d : ℕ) : Type 0 where
 -- no dimension is cut into too many parts
 abbrev pub HasFewParts : Job → ℕ → Type 0
 HasFewParts job b = (s d : ℕ) → HasDimension job s d → parts_at job b s d ≤ most_parts
-
-abbrev pub HasFewSteps : Job → ℕ → Type 0
-HasFewSteps job b = length (canonical_steps job b) ≤ most_steps
-
-abbrev pub HasManySteps : Job → ℕ → Type 0
-HasManySteps job b = most_steps < length (canonical_steps job b)
