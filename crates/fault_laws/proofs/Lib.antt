@@ -1,0 +1,11 @@
+pub mod AfterFaultsStay
+pub mod AfterReaders
+pub mod CutReads
+pub mod CutTokens
+pub mod FaultsStay
+pub mod FeedEnds
+pub mod JobReaders
+pub mod MatrixReaders
+pub mod OperationReaders
+pub mod Readers
+pub mod TextFronts
