@@ -3,7 +3,7 @@ mod TaskBlocks
 mod TermEffects
 mod LeftEffects
 mod RightEffects
-mod StoredBlocks
+mod ReadBlocks
 mod SolveEffects
 mod FactorEffects
 mod RowEntries

@@ -121,7 +121,7 @@ module _ (t : BlockTask) (knowns : ℕ → Blocks) (rows cols : ℕ) (list : Gri
         rows_on = dims.0;
         cols_on = dims.1;
         size = size;
-        read = λ p p_in. let h = have p p_in in (omega (arith, h.0, length-map t.reads.now (nth_grid t.store.now)), h.1);
+        read = λ p p_in. let h = have p p_in in (omega (arith, h.0, length-map t.reads.now (nth_grid t.store)), h.1);
       }
 
   pub left_diagonal : (f : Factor) → t.op.now.form ≡ Left f → HasDiagonal t knowns f 0 list.cols

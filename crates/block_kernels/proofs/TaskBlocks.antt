@@ -215,7 +215,7 @@ module _ (t : BlockTask) (knowns : ℕ → Blocks) (work : Blocks) (g : Grid) (r
 
   -- how many blocks it reads
   pub read_count : (gs : List Grid) → grids_of t ≡ gs → length t.reads.now ≡ length gs
-  read_count gs e = sym (length-map t.reads.now (nth_grid t.store.now)) ∙ ap (λ (l : List Grid). length l) e
+  read_count gs e = sym (length-map t.reads.now (nth_grid t.store)) ∙ ap (λ (l : List Grid). length l) e
 
   -- block (i, j) of W is square where its structure asks for it
   pub work_square : (i j : ℕ) → i < row_count → j < col_count → block_structure op.work.structure i j ≢ General → (work i j).rows ≡ (work i j).cols
@@ -232,8 +232,8 @@ module _ (t : BlockTask) (knowns : ℕ → Blocks) (work : Blocks) (g : Grid) (r
   -- a block that it reads holds residues
   pub read_residues : (at : ℕ) → at < length t.reads.now → AreResidues t.m (nth_grid (grids_of t) at)
   read_residues at below =
-      rw (get_or-map (nth_grid t.store.now) t.reads.now at 0 no_grid below)
-      (AreResidues-nth t.m t.store.now (get_or t.reads.now at 0) ready.stored.residues)
+      rw (get_or-map (nth_grid t.store) t.reads.now at 0 no_grid below)
+      (AreResidues-nth t.m t.store (get_or t.reads.now at 0) ready.stored.residues)
 
 -- a part begins within its range
 pub part_begins : (n b p : ℕ) → 0 < b → p < part_count n b → p * b < n

@@ -1,3 +1,4 @@
+pub mod LaidBlocks
 pub mod ReadGrids
 pub mod BlockOpers
 pub mod Ready

@@ -14,7 +14,7 @@ use Rattle.block_kernels.specs.ReadGrids.{blocks_read}
 
 -- the grids that the task reads, out of its store
 abbrev pub grids_of : BlockTask → List Grid
-grids_of t = map (nth_grid t.store.now) t.reads.now
+grids_of t = map (nth_grid t.store) t.reads.now
 
 -- under block size b these are blocks of a matrix of so many rows and columns
 abbrev pub HaveParts : ℕ → ℕ → ℕ → Blocks → Type 0
@@ -31,8 +31,8 @@ pub record HasKnowns (b : ℕ) (op : Operation) (lengths : ℕ → ℕ) (knowns 
 
 -- the numbers of the blocks that are read are numbers of the store, which holds residues
 pub record IsStored (t : BlockTask) : Type 0 where
-  pub inside : All (λ x. x < length t.store.now) t.reads.now
-  pub residues : All (AreResidues t.m) t.store.now
+  pub inside : All (λ x. x < length t.store) t.reads.now
+  pub residues : All (AreResidues t.m) t.store
 
 -- ---- block tasks
 

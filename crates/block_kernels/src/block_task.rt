@@ -5,22 +5,22 @@ ghost use Rattle.matrix_parts.specs.Lent.{grid_of, loan_of, IsPart, IsKept};
 ghost use Rattle.block_kernels.specs.Outcomes.{IsOutcome};
 ghost use Rattle.block_kernels.specs.Ready.{CanApply};
 
+use crate::stored_blocks::StoredBlocks;
 use equation::Place;
 use field_word::Modulus;
-use matrix_core::Matrix;
 use matrix_parts::PartMut;
 use operation_spec::{Kind, Operation, Task};
 
 /// A block task of a statement under block size b, with the blocks that it reads: by number, in the order in which its effect
 /// names them, in a store of blocks of residues modulo m.
-#[derive(Clone, Copy)]
+#[derive(Drop)]
 pub struct BlockTask<'a> {
     pub m: Modulus,
     pub b: u32,
     pub op: &'a Operation,
     pub task: Task,
     pub reads: &'a [u32],
-    pub store: &'a [Matrix],
+    pub store: StoredBlocks<'a>,
 }
 
 impl BlockTask<'_> {

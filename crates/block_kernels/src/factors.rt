@@ -13,7 +13,7 @@ use crate::lists::no_inverses;
 use crate::pivot_rows::write_unit_inverses;
 use equation::Place;
 use kernel_lib::{BadPivot, factor_ldl, factor_lu, solve_left, solve_right, solve_right_ldl};
-use matrix_parts::{PartMut, part_of_slice, whole};
+use matrix_parts::{PartMut, part_of_slice};
 use structure_rules::Structure;
 
 impl BlockTask<'_> {
@@ -146,7 +146,7 @@ impl BlockTask<'_> {
         let pivots = self.block(0, Structure::General, false);
         write_unit_inverses(self.m, pivots, row);
         let inverses = part_of_slice(row, 1, n);
-        let f = whole(self.read(0));
+        let f = self.read(0);
         solve_right_ldl(self.m, f, inverses, w);
     }
 

@@ -41,10 +41,10 @@ impl BlockTask<'_> {
         requires list { HasListPart self.now at row col rows cols }
         ensures { IsBlockOf (nth_grid (grids_of self.now) at) row col rows cols result }
     {
-        let list = self.read(at);
-        let stride = list.cols() as usize;
-        let _rows = list.rows();
-        Part::of(list.entries(), row * stride + col, stride, rows, cols)
+        let list = self.laid(at);
+        let stride = list.cols as usize;
+        let _rows = list.rows;
+        Part::of(list.entries, row * stride + col, stride, rows, cols)
     }
 
     /// The inverses of the pivots of a diagonal block, from a place of the list on; a triangle with ones on its diagonal needs

@@ -1,16 +1,17 @@
 //! The blocks that a task reads, as operands of kernels.
 
 ghost use Rattle.std.specs.Prelude.{◌≡◌, ◌<◌, length, All};
-ghost use Rattle.residue_sums.specs.Grids.{AreResidues};
+ghost use Rattle.residue_sums.specs.Grids.{AreResidues, IsFull};
 ghost use Rattle.equation.specs.Jobs.{nth_grid};
 ghost use Rattle.block_tasks.specs.Effects.{block_structure as structure_there};
 ghost use Rattle.task_graph.specs.Factors.{known};
 ghost use Rattle.block_kernels.specs.BlockOpers.{is_turned, IsBlockOper};
+ghost use Rattle.block_kernels.specs.LaidBlocks.{laid_grid};
 ghost use Rattle.block_kernels.specs.Ready.{grids_of, IsStored};
 
 use crate::block_task::BlockTask;
-use matrix_core::Matrix;
-use matrix_parts::{Oper, whole};
+use crate::stored_blocks::LaidBlock;
+use matrix_parts::{Oper, Part};
 use operation_spec::Factor;
 use structure_rules::Structure;
 
@@ -33,15 +34,26 @@ fn turned(s: Structure, primed: bool, i: u32, k: u32) -> bool
 }
 
 impl BlockTask<'_> {
-    /// The block at a place of those that the task reads.
-    pub(crate) fn read(&self, at: usize) -> &Matrix
+    /// The block at a place of those that the task reads, as it lies.
+    pub(crate) fn laid(&self, at: usize) -> LaidBlock<'_>
         requires stored { IsStored self.now }
         requires at { at < length self.now.reads.now }
-        ensures grid { result.now ≡ nth_grid (grids_of self.now) at }
-        ensures residues { AreResidues self.now.m result.now }
+        ensures grid { laid_grid result ≡ nth_grid (grids_of self.now) at }
+        ensures full { IsFull (laid_grid result) }
     {
         let number = self.reads[at];
-        &self.store[number as usize]
+        self.store.laid(number)
+    }
+
+    /// That block, as one part.
+    pub(crate) fn read(&self, at: usize) -> Part<'_>
+        requires stored { IsStored self.now }
+        requires at { at < length self.now.reads.now }
+        ensures grid { result ≡ nth_grid (grids_of self.now) at }
+        ensures residues { AreResidues self.now.m result }
+    {
+        let number = self.reads[at];
+        self.store.block(number)
     }
 
     /// That block, read through a structure, and transposed where it is primed.
@@ -54,7 +66,7 @@ impl BlockTask<'_> {
         ensures residues { AreResidues self.now.m result.part }
     {
         Oper {
-            part: whole(self.read(at)),
+            part: self.read(at),
             structure,
             primed,
         }

@@ -4,6 +4,7 @@ pub mod WrittenBlocks
 pub mod StepUses
 pub mod ReadRuns
 pub mod NextTasks
+pub mod FoundTasks
 pub mod FirstStores
 pub mod StoreSteps
 pub mod GoneSteps

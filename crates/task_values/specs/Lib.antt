@@ -1,3 +1,5 @@
+pub mod AnyTasks
+pub mod FoundBlocks
 pub mod Marks
 pub mod Outcomes
 pub mod Progress

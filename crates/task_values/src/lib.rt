@@ -5,9 +5,11 @@
 //! the block that it writes, and leaves it or meets a bad pivot (`run`). What the last step leaves is gathered (`replaying`).
 //!
 //! Other orders of the steps use the same parts: a run (`Run`), what is held of it (`Store`, `Marks`, `Failure`), and what a
-//! store comes to behind all steps (`outcome_of`).
+//! store comes to behind all steps (`outcome_of`). A run also does a step by the blocks alone that it uses (`Run::step`), for
+//! whoever holds them elsewhere than in one store. Blocks keep their sizes (`laws`).
 #![tactic(auto)]
 
+pub mod laws;
 mod marks;
 mod outcome;
 mod replaying;

@@ -17,23 +17,23 @@ write_unit_inverses-requires-clause-square c = (d_read c.args.self.now c.require
 pub write_unit_inverses-requires-clause-units : goal.write_unit_inverses-requires-clause-units
 write_unit_inverses-requires-clause-units c = d_units c.args.self.now c.requires.can.knowns c.requires.can.work (grid_of c.args.w.now) c.requires.can.ready c.requires.kind c.requires.form c.requires.below c.block-pivots.result c.block-pivots.ensures.part c.block-pivots.ensures.structure c.block-pivots.ensures.primed c.block-pivots.ensures.residues
 
-pub read-requires-clause-at : goal.read-requires-clause-at
-read-requires-clause-at c = d_there c.args.self.now c.requires.can.knowns c.requires.can.work (grid_of c.args.w.now) c.requires.can.ready c.requires.kind c.requires.form c.requires.below
+pub read-f-requires-clause-at : goal.read-f-requires-clause-at
+read-f-requires-clause-at c = d_there c.args.self.now c.requires.can.knowns c.requires.can.work (grid_of c.args.w.now) c.requires.can.ready c.requires.kind c.requires.form c.requires.below
 
 pub solve_right_ldl-requires-clause-rows : goal.solve_right_ldl-requires-clause-rows
-solve_right_ldl-requires-clause-rows c = rw (c.whole-f.ensures, c.read.ensures.grid) (d_sizes c.args.self.now c.requires.can.knowns c.requires.can.work (grid_of c.args.w.now) c.requires.can.ready c.requires.kind c.requires.form c.requires.below).0
+solve_right_ldl-requires-clause-rows c = rw (c.read-f.ensures.grid) (d_sizes c.args.self.now c.requires.can.knowns c.requires.can.work (grid_of c.args.w.now) c.requires.can.ready c.requires.kind c.requires.form c.requires.below).0
 
 pub solve_right_ldl-requires-clause-cols : goal.solve_right_ldl-requires-clause-cols
-solve_right_ldl-requires-clause-cols c = rw (c.whole-f.ensures, c.read.ensures.grid) (d_sizes c.args.self.now c.requires.can.knowns c.requires.can.work (grid_of c.args.w.now) c.requires.can.ready c.requires.kind c.requires.form c.requires.below).1
+solve_right_ldl-requires-clause-cols c = rw (c.read-f.ensures.grid) (d_sizes c.args.self.now c.requires.can.knowns c.requires.can.work (grid_of c.args.w.now) c.requires.can.ready c.requires.kind c.requires.form c.requires.below).1
 
 pub solve_right_ldl-requires-clause-inverses : goal.solve_right_ldl-requires-clause-inverses
-solve_right_ldl-requires-clause-inverses c = rw (c.whole-f.ensures, c.read.ensures.grid, d_is c.args.self.now c.requires.can.knowns c.requires.can.work (grid_of c.args.w.now) c.requires.can.ready c.requires.kind c.requires.form c.requires.below) (inverses_again c.args.self.now.m (op_rows c.block-pivots.result) c.args.w.now.cols (op_table c.block-pivots.result) _ c.write_unit_inverses.new.row c.part_of_slice-inverses.result (d_read c.args.self.now c.requires.can.knowns c.requires.can.work (grid_of c.args.w.now) c.requires.can.ready c.requires.kind c.requires.form c.requires.below c.block-pivots.result c.block-pivots.ensures.part c.block-pivots.ensures.structure c.block-pivots.ensures.primed c.block-pivots.ensures.residues).rows_is (d_read c.args.self.now c.requires.can.knowns c.requires.can.work (grid_of c.args.w.now) c.requires.can.ready c.requires.kind c.requires.form c.requires.below c.block-pivots.result c.block-pivots.ensures.part c.block-pivots.ensures.structure c.block-pivots.ensures.primed c.block-pivots.ensures.residues).table_is (rw c.cols-n.ensures at c.part_of_slice-inverses.ensures) c.write_unit_inverses.ensures.inverses)
+solve_right_ldl-requires-clause-inverses c = rw (c.read-f.ensures.grid, d_is c.args.self.now c.requires.can.knowns c.requires.can.work (grid_of c.args.w.now) c.requires.can.ready c.requires.kind c.requires.form c.requires.below) (inverses_again c.args.self.now.m (op_rows c.block-pivots.result) c.args.w.now.cols (op_table c.block-pivots.result) _ c.write_unit_inverses.new.row c.part_of_slice-inverses.result (d_read c.args.self.now c.requires.can.knowns c.requires.can.work (grid_of c.args.w.now) c.requires.can.ready c.requires.kind c.requires.form c.requires.below c.block-pivots.result c.block-pivots.ensures.part c.block-pivots.ensures.structure c.block-pivots.ensures.primed c.block-pivots.ensures.residues).rows_is (d_read c.args.self.now c.requires.can.knowns c.requires.can.work (grid_of c.args.w.now) c.requires.can.ready c.requires.kind c.requires.form c.requires.below c.block-pivots.result c.block-pivots.ensures.part c.block-pivots.ensures.structure c.block-pivots.ensures.primed c.block-pivots.ensures.residues).table_is (rw c.cols-n.ensures at c.part_of_slice-inverses.ensures) c.write_unit_inverses.ensures.inverses)
 
 pub solve_right_ldl-requires-clause-residues : goal.solve_right_ldl-requires-clause-residues
 solve_right_ldl-requires-clause-residues c = c.requires.can.ready.residues
 
 pub returns-clause-effect : goal.returns-clause-effect
-returns-clause-effect c = λ knowns work ready. d_solved c.args.self.now knowns work (grid_of c.args.w.now) ready c.requires.kind c.requires.form c.requires.below c.whole-f.result (c.whole-f.ensures ∙ c.read.ensures.grid) (grid_of c.solve_right_ldl.new.w) c.solve_right_ldl.ensures.solved
+returns-clause-effect c = λ knowns work ready. d_solved c.args.self.now knowns work (grid_of c.args.w.now) ready c.requires.kind c.requires.form c.requires.below c.read-f.result c.read-f.ensures.grid (grid_of c.solve_right_ldl.new.w) c.solve_right_ldl.ensures.solved
 
 pub slice_bounds-row-end : goal.slice_bounds-row-end
 slice_bounds-row-end c =

@@ -1,55 +1,25 @@
-use Rattle.std.proofs.Common.{◌≡◌, ap, refl, sym, ◌∙◌}
-use Rattle.std.specs.Prelude.{MatchOption, None, Option, Some}
-use Rattle.operation_spec.specs.declared.task.Task.{Task}
-use Rattle.task_values.proofs.NextTasks.{are-pivots, fails, is-ready, leaves, list-fails, list-leaves}
+use Rattle.std.proofs.Common.{ap, ◌∙◌}
+use Rattle.step_replays.specs.declared.step.Step.{Step}
+use Rattle.task_values.proofs.FoundTasks.{store-does, store-done}
+use Rattle.task_values.proofs.ReadRuns.{step-is}
 use Rattle.task_values.proofs.run.Run.done.Goals as goal
 
--- what an option comes to, by what it is
-match_option : {A : Type 0} (P : Type 0) (Q : A → Type 0) (o : Option A) → (o ≡ None → P) → ((x : A) → o ≡ Some x → Q x) → MatchOption o P Q
-match_option P Q None none some = none refl
-match_option P Q (Some x) none some = some x refl
-
-pub list_done-requires : goal.list_done-requires
-list_done-requires c =
+pub done_on_matrix-requires-clause-can : goal.done_on_matrix-requires-clause-can
+done_on_matrix-requires-clause-can c =
     let t = c.task-task.ensures in
-    let next = c.requires.ready.1 in
-    record {
-      knowns = _;
-      rows = _;
-      cols = _;
-      pivots = are-pivots c.args.self.now c.requires.run c.requires.ready.0 c.args.n c.args.store.now c.args.block next t.few c.task-task.result
-          t.modulus t.size t.operation t.task t.reads t.store (sym (ap (λ (u : Task). u.kind) t.task) ∙ c.in-Pivots.is);
-    }
+    let step = step-is c.args.self.now c.requires.run c.args.n c.requires.ready.1.within c.index-self-n.result in
+    store-does c.args.self.now c.requires.run c.args.n c.args.store.now c.args.block c.task-task.result
+    (record { modulus = t.modulus; size = t.size; operation = t.operation; task = t.task; few = t.few })
+    (t.reads ∙ c.as_slice-reads.ensures ∙ ap (λ (s : Step). s.access.reads) step) (t.store ∙ c.of_matrices.ensures) c.requires.ready
 
-pub block_done-requires : goal.block_done-requires
-block_done-requires c =
-    let t = c.task-task.ensures in
-    let next = c.requires.ready.1 in
-    record {
-      can = record {
-        knowns = _;
-        work = _;
-        ready = is-ready c.args.self.now c.requires.run c.requires.ready.0 c.args.n c.args.store.now c.args.block next t.few c.task-task.result
-            t.modulus t.size t.operation t.task t.reads t.store (λ kind. c.in_default.not-Pivots (ap (λ (u : Task). u.kind) t.task ∙ kind));
-      };
-      room = rw t.size c.requires.room;
-    }
+pub done_on_matrix-requires-clause-room : goal.done_on_matrix-requires-clause-room
+done_on_matrix-requires-clause-room c = rw c.task-task.ensures.size c.requires.room
 
-pub returns-in-Pivots-clause-outcome : goal.returns-in-Pivots-clause-outcome
-returns-in-Pivots-clause-outcome c =
+pub returns-clause-outcome : goal.returns-clause-outcome
+returns-clause-outcome c =
     let t = c.task-task.ensures in
-    let kind = sym (ap (λ (u : Task). u.kind) t.task) ∙ c.in-Pivots.is in
-    match_option _ _ c.list_done.result.bad
-    (λ none results next. list-leaves c.args.self.now c.requires.run results c.args.n c.args.store.now c.args.block next t.few c.task-task.result
-    t.modulus t.size t.operation t.task t.reads t.store kind c.list_done.result.block (rw none at c.list_done.ensures.outcome))
-    (λ place some results next. list-fails c.args.self.now c.requires.run results c.args.n c.args.store.now c.args.block next t.few c.task-task.result
-    t.modulus t.size t.operation t.task t.reads t.store kind c.list_done.result.block place (rw some at c.list_done.ensures.outcome))
-
-pub returns-in_default-clause-outcome : goal.returns-in_default-clause-outcome
-returns-in_default-clause-outcome c =
-    let t = c.task-task.ensures in
-    match_option _ _ c.block_done.result.bad
-    (λ none results next. leaves c.args.self.now c.requires.run results c.args.n c.args.store.now c.args.block next t.few c.task-task.result
-    t.modulus t.size t.operation t.task t.reads t.store (λ kind. c.in_default.not-Pivots (ap (λ (u : Task). u.kind) t.task ∙ kind)) c.block_done.result.block (rw none at c.block_done.ensures.outcome))
-    (λ place some results next. fails c.args.self.now c.requires.run results c.args.n c.args.store.now c.args.block next t.few c.task-task.result
-    t.modulus t.size t.operation t.task t.reads t.store (λ kind. c.in_default.not-Pivots (ap (λ (u : Task). u.kind) t.task ∙ kind)) c.block_done.result.block place (rw some at c.block_done.ensures.outcome))
+    let step = step-is c.args.self.now c.requires.run c.args.n c.requires.ready.1.within c.index-self-n.result in
+    store-done c.args.self.now c.requires.run c.args.n c.args.store.now c.args.block c.task-task.result
+    (record { modulus = t.modulus; size = t.size; operation = t.operation; task = t.task; few = t.few })
+    (t.reads ∙ c.as_slice-reads.ensures ∙ ap (λ (s : Step). s.access.reads) step) (t.store ∙ c.of_matrices.ensures)
+    c.done_on_matrix.result.bad c.done_on_matrix.result.block c.done_on_matrix.ensures.outcome

@@ -13,6 +13,3 @@ returns-clause-operation c =
 
 pub returns-clause-task : goal.returns-clause-task
 returns-clause-task c = ap (λ (t : Step). t.task) (step-is c.args.self.now c.requires.run c.args.n c.requires.within c.index-self-n.result)
-
-pub returns-clause-reads : goal.returns-clause-reads
-returns-clause-reads c = c.as_slice-4.ensures ∙ ap (λ (t : Step). t.access.reads) (step-is c.args.self.now c.requires.run c.args.n c.requires.within c.index-self-n.result)

@@ -1,4 +1,4 @@
--- A block of the store, as code reads it by number, and a block of a list as a rectangle of its numbers.
+-- A block that is read, as code reads it by number, and a block of a list as a rectangle of its numbers.
 use Rattle.std.proofs.Common.{◌≡◌, ℕ, ◌+◌, ◌*◌, ◌<◌, ◌≤◌, List, length, map, get_or, All, refl, sym, ◌∙◌, ap, subst, arith}
 use Rattle.std.proofs.lemmas.List.{get_or-map, get_or_default}
 use Rattle.residue_sums.specs.Grids.{Grid, IsFull, AreResidues}
