@@ -9,7 +9,7 @@ pub mod ReleasedSteps
 pub mod ReplayFronts
 pub mod RunningSteps
 pub mod ScheduleTests
-mod StepsInOrder
+pub mod StepsInOrder
 mod WorkedSchedules
 pub mod TurnTests
 pub mod MachineSteps

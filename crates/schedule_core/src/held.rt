@@ -116,8 +116,8 @@ impl Held {
     }
 }
 
-/// The failure of the lesser statement.
-fn lesser(noted: Option<Failure>, failure: Failure) -> Failure
+/// Of two failures, of which the first may be none, that of the lesser statement.
+pub fn lesser(noted: Option<Failure>, failure: Failure) -> Failure
     ensures { result ≡ lesser_of noted failure }
 {
     match noted {

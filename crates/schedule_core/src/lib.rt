@@ -24,6 +24,7 @@ mod step_edges;
 mod turns;
 
 pub use event::{Event, EventList};
+pub use held::lesser;
 pub use machine::Machine;
 pub use running::run_events;
 pub use step_edges::edges_of_steps;
