@@ -15,7 +15,7 @@ use Rattle.block_store.specs.declared.key.BoardKey.{BoardKey}
 use Rattle.block_store.specs.declared.view.Fact.TheVariants.{Claimed, Refused}
 use Rattle.block_store.specs.declared.view.View.{View}
 use Rattle.block_store.specs.Keys.{IsStep}
-use Rattle.block_store.specs.Tallies.{weigh, claim_of, begin_of, end_of, good_of, bad_of, claims, marked_into}
+use Rattle.block_store.specs.Tallies.{weigh, claim_of, begin_of, end_of, good_of, bad_of, put_of, claims, marked_into}
 use Rattle.block_store.specs.Rule.{IsKept}
 use Rattle.block_store.specs.Views.{learned}
 use Rattle.block_store.specs.Plays.{claim_view, IsTaken, IsFresh}
@@ -98,7 +98,8 @@ module _ (key : BoardKey) (id : ℕ) (me : Me Grid View) (words : List ℕ) (hom
       let begin : weigh (begin_of t) me.0.facts ≡ 0 = omega (arith, own.begun t) in
       let end : weigh (end_of t) me.0.facts ≡ 0 = omega (arith, own.ended t) in
       let both = weigh-sum (end_of t) (good_of t) (bad_of t) (end-split t) me.0.facts in
-      record { claim = claim; begin = begin; end = end; notices = λ u. omega (arith, own.noticed t u, own.marked t u); marks = λ u. omega (arith, own.marked t u) }
+      let put : weigh (put_of t) me.0.facts ≡ 0 = omega (arith, (ruled.held.holders id me.0 at).puts_begun t) in
+      record { claim = claim; begin = begin; end = end; put = put; notices = λ u. omega (arith, own.noticed t u, own.marked t u); marks = λ u. omega (arith, own.marked t u) }
 
   -- a bare mark that is found stands
   stands : get_or words t 0 ≡ 8589934592 → (u : ℕ) → Some t ≡ Some u → 0 < marked_into views key u

@@ -1,5 +1,5 @@
 -- What is in the slots once each step has ended.
-use Rattle.std.proofs.Common.{◌≡◌, ℕ, ◌+◌, ◌*◌, List, get_or, refl, subst, arith}
+use Rattle.std.proofs.Common.{◌≡◌, ℕ, ◌+◌, ◌*◌, ◌<◌, List, get_or, refl, sym, ◌∙◌, subst, arith}
 use mathlib.Core.Option.{some}
 use lib.ListN.{get_elem?}
 use Rattle.atomic_table.specs.Table.{State, Final, Seen}
@@ -7,7 +7,7 @@ use Rattle.residue_sums.specs.Grids.{Grid}
 use Rattle.residue_sums.proofs.Sums.{sum_below-same}
 use Rattle.block_store.specs.declared.key.BoardKey.{BoardKey}
 use Rattle.block_store.specs.declared.view.View.{View}
-use Rattle.block_store.specs.Blocks.{is_writer, writes_to, IsValue}
+use Rattle.block_store.specs.Blocks.{block_count, is_writer, writes_to, IsValue}
 use Rattle.block_store.specs.Holding.{version, IsHeld, IsRuled, HaveLast}
 use Rattle.block_store.specs.Keys.{step_count, IsStep}
 use Rattle.block_store.specs.Plays.{StandsForAll, IsWhole, NotHolds}
@@ -48,7 +48,10 @@ module _ (key : BoardKey) (id : ℕ) (v : View) (all : StandsForAll key v) (load
       let step : IsStep key t = ((writer-is key x t w).0, omega arith) in
       omega (arith, ended t step, puts-le key final.0.words final.0.views kept held.holders t, begins-le key final.0.words final.0.views kept t, kept.claims_are.once t)))
 
-  pub last : HaveLast key slots
-  last x lt =
+  each : (x : ℕ) → x < block_count key → (g : Grid) × (get_elem? slots x ≡ some g) × IsValue key x (writes_to key x (step_count key + 1)) g
+  each x lt =
       let h = held.home x lt (omega (arith, alone key final.0.words final.0.views kept id v at all (took_of x), alone key final.0.words final.0.views kept id v at all (gave_of x), free x)) in
       (h.0, final.4 x h.0 h.1, subst (λ n. IsValue key x n h.0) (versions x) h.2)
+
+  pub last : HaveLast key slots
+  last = record { many = sym final.3 ∙ held.many; each = each }

@@ -31,3 +31,7 @@ pub mod Seating
 pub mod Opening
 pub mod NewSeats
 pub mod Closing
+pub mod PartGrids
+pub mod TakenOut
+pub mod TopBlocks
+pub mod Shapes

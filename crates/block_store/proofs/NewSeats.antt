@@ -33,7 +33,7 @@ rest-length : (workers : List ℕ) → 0 < length workers → length (rest_of wo
 rest-length [] h = absurd (omega arith)
 rest-length (x ∷ workers) h = omega arith
 
-for-push : (worker : ℕ) (seats : List Seat) (last : Seat) → seats_for worker (seats ++ last ∷ []) ≡ seats_for worker seats + count_in worker (view last).workers
+pub for-push : (worker : ℕ) (seats : List Seat) (last : Seat) → seats_for worker (seats ++ last ∷ []) ≡ seats_for worker seats + count_in worker (view last).workers
 for-push worker [] last = omega arith
 for-push worker (seat ∷ seats) last = omega (arith, for-push worker seats last)
 

@@ -37,7 +37,7 @@ use Rattle.block_store.proofs.Edges.{access-count, edge-steps}
 
 -- ---- workers
 
-numbers-count : (n worker : ℕ) → count_in worker (numbers n) ≡ below n worker
+pub numbers-count : (n worker : ℕ) → count_in worker (numbers n) ≡ below n worker
 numbers-count zero worker = sym (below-ge 0 worker (omega arith))
 numbers-count (suc n) worker = let one : suc n ≡ n + 1 = omega arith in omega (arith, numbers-count n worker, below-more n worker, ap (λ x. below x worker) one)
 

@@ -21,7 +21,7 @@ use Rattle.block_store.proofs.QuietMoves.{IsRight, kept-same}
 
 -- ---- lists of facts, views and workers
 
-weigh-append : (h : Fact → ℕ) (xs ys : List Fact) → weigh h (xs ++ ys) ≡ weigh h xs + weigh h ys
+pub weigh-append : (h : Fact → ℕ) (xs ys : List Fact) → weigh h (xs ++ ys) ≡ weigh h xs + weigh h ys
 weigh-append h [] ys = omega arith
 weigh-append h (x ∷ xs) ys = omega (arith, weigh-append h xs ys)
 

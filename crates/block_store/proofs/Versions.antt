@@ -153,7 +153,7 @@ found-after key results replay t x g step is =
 pub last-after : (key : BoardKey) (results : List StepResult) → IsReplayOf key results → (slots : List Grid) → HaveLast key slots → (x : ℕ) → x < block_count key
     → get_elem? slots x ≡ some (block_after key.job.value key.b key.steps.value results (step_count key) x)
 last-after key results replay slots last x lt =
-    let h = last x lt in
+    let h = last.each x lt in
     let one : step_count key + 1 ≡ suc (step_count key) = omega arith in
     let count : writes_to key x (step_count key + 1) ≡ writes_before key.job.value key.b key.steps.value results (step_count key) x
     = ap (λ (k : ℕ). writes_to key x k) one ∙ counted_writes key results x (step_count key) in

@@ -3,6 +3,8 @@ use Rattle.std.specs.Prelude.{◌≡◌, ℕ, ◌+◌, ◌&&◌, ◌==◌, nat_l
 use Rattle.residue_sums.specs.Sums.{sum_below}
 use Rattle.residue_sums.specs.Grids.{Grid}
 use Rattle.dependence_queue.specs.declared.access.Access.{Access}
+use Rattle.flash_blocks.specs.Flashes.{HasShape}
+use Rattle.step_replays.specs.Accesses.{first_block}
 use Rattle.step_replays.specs.Replays.{StepResult, value}
 use Rattle.job_blocks.specs.BlockedJobs.{block_total}
 use Rattle.schedule_core.specs.EventBlocks.{step_access}
@@ -40,3 +42,16 @@ IsFound key t x g = IsValue key x (writes_to key x t) g
 
 abbrev pub IsLeft : BoardKey → ℕ → ℕ → Grid → Type 0
 IsLeft key t x g = IsValue key x (writes_to key x t + 1) g
+
+-- ---- shapes
+
+-- the rows and columns with which the job gives block x
+abbrev pub block_rows : BoardKey → ℕ → ℕ
+block_rows key x = (first_block key.job.value key.b x).rows
+
+abbrev pub block_cols : BoardKey → ℕ → ℕ
+block_cols key x = (first_block key.job.value key.b x).cols
+
+-- after any of its writes each block has these rows and columns
+abbrev pub KeepShapes : BoardKey → Type 0
+KeepShapes key = (x v : ℕ) (g : Grid) → IsValue key x v g → HasShape (block_rows key x) (block_cols key x) g

@@ -48,5 +48,7 @@ pub record AreFirst (key : BoardKey) (slots : List Grid) : Type 0 where
   pub each : (x : ℕ) → x < block_count key → (g : Grid) × (get_elem? slots x ≡ some g) × IsValue key x 0 g
 
 -- as it is after all writes
-abbrev pub HaveLast : BoardKey → List Grid → Type 0
-HaveLast key slots = (x : ℕ) → x < block_count key → (g : Grid) × (get_elem? slots x ≡ some g) × IsValue key x (writes_to key x (step_count key + 1)) g
+pub record HaveLast (key : BoardKey) (slots : List Grid) : Type 0 where
+  pub many : length slots ≡ block_count key
+  pub each : (x : ℕ) → x < block_count key
+      → (g : Grid) × (get_elem? slots x ≡ some g) × IsValue key x (writes_to key x (step_count key + 1)) g

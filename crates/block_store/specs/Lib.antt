@@ -2,6 +2,7 @@ pub mod Blocks
 pub mod Holding
 pub mod Keys
 pub mod Opening
+pub mod Parts
 pub mod Plays
 pub mod Rule
 pub mod Seats

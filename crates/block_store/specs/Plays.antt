@@ -65,11 +65,12 @@ module _ (v : View) where
     pub unended : NotEnded v t
     pub unput : NotPut t
 
--- the view has nothing of t: no claim, no start, no finish, and no pair from t
+-- the view has nothing of t: no claim, no start, no finish, no block put, and no pair from t
 pub record IsFresh (t : ℕ) (v : View) : Type 0 where
   pub claim : weigh (claim_of t) v.facts ≡ 0
   pub begin : weigh (begin_of t) v.facts ≡ 0
   pub end : weigh (end_of t) v.facts ≡ 0
+  pub put : weigh (put_of t) v.facts ≡ 0
   pub notices : (u : ℕ) → weigh (notice_of t u) v.facts ≡ 0
   pub marks : (u : ℕ) → weigh (mark_of t u) v.facts ≡ 0
 

@@ -6,7 +6,7 @@ ghost use Rattle.block_store.specs.declared.outcome.StepOutcome.TheVariants.{Ski
 ghost use Rattle.block_store.specs.declared.view.Fact.TheVariants.{Began, Claimed, Ended, Marked, Noticed, Refused};
 ghost use Rattle.block_store.specs.Keys.{edge, is_bad, outcome_at, step_count, IsOutcome, IsReplayOf, IsStep};
 ghost use Rattle.block_store.specs.Plays.{HasBegun, HasClaimed, HasEndedBad, HasPut, IsFresh, IsNewStamp, IsWhole, MayNotify, NoLast};
-ghost use Rattle.block_store.specs.Plays.{NotBegun, NotEnded, NotMarked, NotNoticed, StandsForAll};
+ghost use Rattle.block_store.specs.Plays.{NotBegun, NotEnded, NotHolds, NotMarked, NotNoticed, StandsForAll};
 ghost use Rattle.block_store.specs.Seats.{key_of, view, IsSame, IsSeatOf};
 ghost use Rattle.block_store.specs.Views.{both_views, kept_view, learned, new_view, timed};
 
@@ -72,13 +72,14 @@ impl Board {
     }
 
     /// A step that this seat has begun ends, with the outcome that it has in the replay of the steps. Where it ran, it has put
-    /// its block. The answer is its finish stamp, which an addition of 1 to the clock drew.
+    /// its block; the seat holds none. The answer is its finish stamp, which an addition of 1 to the clock drew.
     pub fn end(&self, seat: &mut Seat, t: u32, outcome: StepOutcome) -> u64
         requires seat { IsSeatOf self.now seat.old }
         requires begun { HasBegun (view seat.old) t }
         requires fresh { NotEnded (view seat.old) t }
         requires right { IsOutcome (key_of self.now) t outcome }
         requires done { (is_bad outcome ≡ true) ⊎ HasPut (view seat.old) t }
+        requires free { (x : ℕ) → NotHolds (view seat.old) x }
         ensures same { IsSame seat.old seat.new }
         ensures ended { view seat.new ≡ learned (Ended t result outcome) (view seat.old) }
         ensures stamp { IsNewStamp result (view seat.old) }
@@ -93,6 +94,7 @@ impl Board {
         requires fresh { NotEnded (view seat.old) t }
         requires right { IsOutcome (key_of self.now) t outcome }
         requires done { (is_bad outcome ≡ true) ⊎ HasPut (view seat.old) t }
+        requires free { (x : ℕ) → NotHolds (view seat.old) x }
         ensures same { IsSame seat.old seat.new }
         ensures ended { view seat.new ≡ learned (Ended t result outcome) (view seat.old) }
         ensures stamp { IsNewStamp result (view seat.old) }

@@ -1,18 +1,21 @@
 //! What the stamps and the blocks of a run come to. Each law is the contract of a function that does nothing.
 
-ghost use Rattle.std.specs.Prelude.{◌≡◌, ◌-◌, ◌*◌, ◌<◌, ℕ, List, length};
+ghost use Rattle.std.specs.Prelude.{◌≡◌, ◌-◌, ◌*◌, ◌<◌, ◌≤◌, ℕ, List, length};
 ghost use mathlib.Core.Option.{some};
 ghost use lib.ListN.{get_elem?};
-ghost use Rattle.residue_sums.specs.Grids.{Grid};
+ghost use Rattle.equation.specs.Jobs.{IsJob};
+ghost use Rattle.residue_sums.specs.Grids.{Grid, IsFull};
+ghost use Rattle.step_replays.specs.Fits.{FitsJob};
 ghost use Rattle.step_replays.specs.Replays.{StepResult, block_after};
 ghost use Rattle.schedule_core.specs.declared.event.Event.{Event};
 ghost use Rattle.schedule_core.specs.EventBlocks.{step_access};
 ghost use Rattle.schedule_core.specs.Schedules.{IsSchedule};
 ghost use Rattle.block_store.specs.declared.key.BoardKey.{BoardKey};
 ghost use Rattle.block_store.specs.declared.view.View.{View};
-ghost use Rattle.block_store.specs.Blocks.{access_of, block_count, IsFound, IsLeft};
+ghost use Rattle.block_store.specs.Blocks.{access_of, block_count, IsFound, IsLeft, KeepShapes};
 ghost use Rattle.block_store.specs.Holding.{HaveLast};
 ghost use Rattle.block_store.specs.Keys.{step_count, IsReplayOf, IsStep};
+ghost use Rattle.block_store.specs.Parts.{part_of};
 ghost use Rattle.block_store.specs.Plays.{IsWhole};
 ghost use Rattle.block_store.specs.Stamps.{AreByStamps, HasStamp};
 
@@ -40,4 +43,16 @@ pub fn values_are_those_of_the_replay()
         → (slots : List Grid) → HaveLast key slots → (x : ℕ) → x < block_count key
         → get_elem? slots x ≡ some (block_after key.job.value key.b key.steps.value results
         (step_count key) x) }
+{}
+
+/// Where the steps fit a valid job, each block keeps the rows and columns that the job gives it, at any time.
+pub fn blocks_keep_their_shapes()
+    ensures { (key : BoardKey) → IsJob key.job.value → 1 ≤ key.b
+        → FitsJob key.job.value key.b key.steps.value → KeepShapes key }
+{}
+
+/// All rows and columns of a grid are the grid.
+pub fn whole_parts_are_the_grid()
+    ensures { (g : Grid) → IsFull g
+        → part_of g (record { row = 0; col = 0; rows = g.rows; cols = g.cols }) ≡ g }
 {}

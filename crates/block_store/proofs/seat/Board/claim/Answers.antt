@@ -31,7 +31,7 @@ found_mark n h = grind (arith, nat_tests)
 
 -- a view with a mark in mind has the same facts
 fresh-without : (t : ℕ) (v w : View) → w ≡ with_mark t v → IsFresh t w → IsFresh t v
-fresh-without t v w e f = let g = subst (IsFresh t) e f in record { claim = g.claim; begin = g.begin; end = g.end; notices = g.notices; marks = g.marks }
+fresh-without t v w e f = let g = subst (IsFresh t) e f in record { claim = g.claim; begin = g.begin; end = g.end; put = g.put; notices = g.notices; marks = g.marks }
 
 pub returns-then-found-eq-MARK-clause-claimed : goal.returns-then-found-eq-MARK-clause-claimed
 returns-then-found-eq-MARK-clause-claimed c = λ e.
