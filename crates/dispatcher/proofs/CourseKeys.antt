@@ -1,0 +1,31 @@
+-- What a course and the key of its board have in common.
+use Rattle.std.proofs.Common.{◌≡◌, ◌<◌, ℕ, List, Some, length, slice_get, subst, sym, ap, ◌∙◌}
+use Rattle.dependence_queue.specs.declared.edge.Edge.{Edge}
+use Rattle.dependence_queue.specs.Edges.{edges_of, successors}
+use Rattle.step_replays.specs.declared.step.Step.{Step}
+use Rattle.schedule_core.specs.StepAccesses.{accesses_of}
+use Rattle.block_store.specs.Keys.{accesses, edge, step_count}
+use Rattle.block_store.specs.Seats.{key_of}
+use Rattle.ready_queue.specs.Queues.{steps_of}
+use Rattle.dispatcher.specs.declared.course.Course.{Course}
+use Rattle.dispatcher.specs.Courses.{IsCourse}
+use Rattle.dispatcher.proofs.Successors.{key-apart, key-successor}
+
+module _ (c : Course) (course : IsCourse c) where
+  -- the steps
+  pub course-count : step_count (key_of c.board.now) ≡ length c.run.steps.now
+  course-count = ap (λ (steps : List Step). length steps) course.key.steps_are
+
+  pub course-queue : steps_of c.ready.now ≡ step_count (key_of c.board.now)
+  course-queue = course.queue ∙ sym course-count
+
+  -- the edges
+  key-edges : c.edges.now ≡ edges_of (accesses (key_of c.board.now))
+  key-edges = course.edges ∙ ap (λ (steps : List Step). edges_of (accesses_of steps)) (sym course.key.steps_are)
+
+  pub course-successor : (t j a : ℕ) → slice_get (successors c.edges.now t) j ≡ Some a → 0 < edge (key_of c.board.now) t a
+  course-successor t j a at = key-successor (key_of c.board.now) t j a (subst (λ (es : List Edge). slice_get (successors es t) j ≡ Some a) key-edges at)
+
+  pub course-apart : (t j l a : ℕ) → slice_get (successors c.edges.now t) j ≡ Some a → slice_get (successors c.edges.now t) l ≡ Some a → j ≡ l
+  course-apart t j l a here there = key-apart (key_of c.board.now) t j l a (subst (λ (es : List Edge). slice_get (successors es t) j ≡ Some a) key-edges here)
+      (subst (λ (es : List Edge). slice_get (successors es t) l ≡ Some a) key-edges there)

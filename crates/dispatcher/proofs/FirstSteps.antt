@@ -1,0 +1,69 @@
+-- The steps into which no edge goes are pushed, each once. Cited where the first steps are pushed, and where a worker has pushed them.
+use Rattle.std.proofs.Common.{◌≡◌, ℕ, ◌+◌, ◌<◌, ◌≤◌, inl, inr, List, [], ◌∷◌, refl, sym, ap, ◌∙◌, arith}
+use Rattle.std.proofs.lemmas.Bool.{cases_eq}
+use Rattle.dependence_queue.specs.Edges.{count_into, edges_of}
+use Rattle.dependence_queue.specs.declared.edge.Edge.{Edge}
+use Rattle.step_replays.specs.declared.step.Step.{Step}
+use Rattle.schedule_core.specs.StepAccesses.{accesses_of}
+use Rattle.block_store.specs.declared.key.BoardKey.{BoardKey}
+use Rattle.block_store.specs.declared.seat.Board.{Board}
+use Rattle.block_store.specs.Keys.{preds}
+use Rattle.block_store.specs.Seats.{key_of}
+use Rattle.block_store.proofs.Opening.{counted_preds}
+use Rattle.ready_queue.specs.declared.queue.Pass.{Pass}
+use Rattle.ready_queue.specs.declared.queue.Ready.{Ready}
+use Rattle.ready_queue.specs.Hands.{times}
+use Rattle.ready_queue.specs.Queues as queues
+use Rattle.ready_queue.proofs.Numbers.{same-eq, same-ne}
+use Rattle.dispatcher.specs.declared.course.Course.{Course}
+use Rattle.dispatcher.specs.declared.worker.Worker.{Worker}
+use Rattle.dispatcher.specs.Courses.{IsCourse}
+use Rattle.dispatcher.specs.Telling.{root}
+use Rattle.dispatcher.specs.Workers.{IsNewWorker, IsWorker}
+
+-- what the edges of a course tell of its key
+pub course-preds : (course : Course) → IsCourse course → (t : ℕ) → count_into course.edges.now t ≡ preds (key_of course.board.now) t
+course-preds course is t =
+    ap (λ (edges : List Edge). count_into edges t) (is.edges ∙ ap (λ (steps : List Step). edges_of (accesses_of steps)) (sym is.key.steps_are)) ∙ counted_preds (key_of course.board.now) t
+
+root-one : (key : BoardKey) (x : ℕ) → preds key x ≡ 0 → root key x ≡ 1
+root-one key x none = rw none refl
+
+-- steps without an edge into them were pushed, once each, and none past the first n
+pub record AreRoots (key : BoardKey) (n : ℕ) (pushed : List ℕ) : Type 0 where
+  pub roots : (x : ℕ) → times x pushed ≤ root key x
+  pub later : (x : ℕ) → n < x → times x pushed ≡ 0
+
+pub roots-none : (key : BoardKey) (n : ℕ) (pushed : List ℕ) → pushed ≡ [] → AreRoots key n pushed
+roots-none key n pushed none = record {
+  roots = λ x. let e : times x pushed ≡ 0 = ap (times x) none in omega (arith);
+  later = λ x low. ap (times x) none;
+}
+
+pub roots-skip : (key : BoardKey) (n : ℕ) (pushed : List ℕ) → AreRoots key n pushed → AreRoots key (n + 1) pushed
+roots-skip key n pushed are = record { roots = are.roots; later = λ x low. are.later x (omega arith) }
+
+pub roots-more : (key : BoardKey) (n : ℕ) (pushed more : List ℕ) → preds key (n + 1) ≡ 0 → more ≡ (n + 1) ∷ pushed → AreRoots key n pushed → AreRoots key (n + 1) more
+roots-more key n pushed more none is are = record {
+  roots = λ x. let e : times x more ≡ times x ((n + 1) ∷ pushed) = ap (times x) is in
+      elim (cases_eq (n + 1) x) [
+        | inl same ↦ omega (arith, same-eq (n + 1) x same, are.later x (omega arith), root-one key x (ap (preds key) (sym same) ∙ none))
+        | inr apart ↦ omega (arith, same-ne (n + 1) x apart, are.roots x)
+      ];
+  later = λ x low. let e : times x more ≡ times x ((n + 1) ∷ pushed) = ap (times x) is in omega (arith, same-ne (n + 1) x (λ h. omega arith), are.later x (omega arith));
+}
+
+-- a new worker that has pushed them is as between two steps
+pub opened : (board : Board) (ready : Ready) (old : Worker) (pass : Pass) → IsNewWorker board ready old → queues.IsPassOf ready pass
+    → ((x : ℕ) → times x (queues.view pass).pushed ≤ root (key_of board) x) → IsWorker board ready (record old { pass = pass })
+opened board ready old pass new of roots = record {
+  seat = new.worker.seat;
+  empty = new.worker.empty;
+  free = new.worker.free;
+  pass = of;
+  tied = λ x. omega (arith, roots x);
+  desk = new.worker.desk;
+  long = new.worker.long;
+  logged = new.worker.logged;
+  noted = new.worker.noted;
+}

@@ -1,0 +1,148 @@
+-- What stays while the steps behind one that has ended are told.
+use Rattle.std.proofs.Common.{◌≡◌, ◌≢◌, ℕ, ◌+◌, ◌<◌, ◌≤◌, ◌⊎◌, inl, inr, Bool, true, false, List, [], ◌∷◌, slice_get, Some, refl, sym, ap, ◌∙◌, arith}
+use Rattle.std.proofs.lemmas.Bool.{cases_eq, eq-eqb, ne_eqb}
+use Rattle.std.proofs.lemmas.List.Elements.{All-cons, All-nil}
+use Rattle.block_store.specs.declared.key.BoardKey.{BoardKey}
+use Rattle.block_store.specs.declared.outcome.StepOutcome.{StepOutcome}
+use Rattle.block_store.specs.declared.outcome.StepOutcome.TheVariants.{Ran, Skipped, Failed}
+use Rattle.block_store.specs.declared.view.Fact.{Fact}
+use Rattle.block_store.specs.declared.view.Fact.TheVariants.{Claimed, Refused, Began, Ended, Marked, Noticed, Took, Away, Gave, Put}
+use Rattle.block_store.specs.declared.view.View.{View}
+use Rattle.block_store.specs.Keys.{edge, is_bad, preds, step_count}
+use Rattle.block_store.specs.Plays.{MayNotify, NoLast, NotHolds, NotMarked, NotNoticed}
+use Rattle.block_store.specs.Sums.{same_pair}
+use Rattle.block_store.specs.Tallies.{gave_of, last_of, took_of, weigh}
+use Rattle.block_store.specs.Views.{learned}
+use Rattle.block_store.proofs.Sums.{same-eq, same_pair-eq, same_pair-right, sum_below-at}
+use Rattle.block_store.proofs.Edges.{edge-steps}
+use Rattle.ready_queue.specs.declared.hand.Hand.{Hand}
+use Rattle.ready_queue.specs.Hands.{after_push, same, times}
+use Rattle.dispatcher.specs.Telling.{HasEndedAs, HasTold, HasToldNone, AreTied, IsTellingFact, marked_view, root, told_view}
+use Rattle.dispatcher.proofs.QuietFacts.{HaveSameEvents, IsNoEvent, more-weigh, quiet-events}
+
+-- ---- the view once a pair is marked, where it has to be, and once it is told
+
+pub marked-may : (bad : Bool) (t next : ℕ) (v : View) → HasEndedAs bad t v → MayNotify (marked_view bad t next v) t next
+marked-may true t next v ended = omega (arith, same_pair-eq t next t next refl refl)
+marked-may false t next v ended = omega arith
+
+pub marked-unnoticed : (bad : Bool) (t next : ℕ) (v : View) → NotNoticed v t next → NotNoticed (marked_view bad t next v) t next
+marked-unnoticed true t next v none = omega arith
+marked-unnoticed false t next v none = none
+
+pub marked-last : (bad : Bool) (t next x : ℕ) (v : View) → weigh (last_of x) (marked_view bad t next v).facts ≡ weigh (last_of x) v.facts
+marked-last true t next x v = omega arith
+marked-last false t next x v = refl
+
+pub ended-told : (b bad : Bool) (t next left : ℕ) (v : View) → HasEndedAs bad t v → HasEndedAs bad t (told_view b t next left v)
+ended-told true true t next left v ended = omega arith
+ended-told true false t next left v ended = omega arith
+ended-told false true t next left v ended = omega arith
+ended-told false false t next left v ended = omega arith
+
+-- another step is told no more than before
+pub others-untold : (b : Bool) (t next left u : ℕ) (v : View) → next ≢ u → NotNoticed v t u → NotMarked v t u
+    → NotNoticed (told_view b t next left v) t u × NotMarked (told_view b t next left v) t u
+others-untold true t next left u v other none unmarked = (omega (arith, none, same_pair-right t next t u other), omega (arith, unmarked, same_pair-right t next t u other))
+others-untold false t next left u v other none unmarked = (omega (arith, none, same_pair-right t next t u other), omega (arith, unmarked))
+
+-- no step in this row from place k on is told yet
+abbrev pub AreUntold : ℕ → View → List ℕ → ℕ → Type 0
+AreUntold t v row k = (j a : ℕ) → k ≤ j → slice_get row j ≡ Some a → NotNoticed v t a × NotMarked v t a
+
+-- the step at place k is told, and no place behind it has that step
+pub untold-next : (b : Bool) (t next left k : ℕ) (v : View) (row : List ℕ) → ((j l a : ℕ) → slice_get row j ≡ Some a → slice_get row l ≡ Some a → j ≡ l)
+    → slice_get row k ≡ Some next → AreUntold t v row k → AreUntold t (told_view b t next left v) row (k + 1)
+untold-next b t next left k v row apart here untold j a behind at =
+    let before = untold j a (omega arith) at in
+    others-untold b t next left a v (λ e. omega (arith, apart k j a (here ∙ ap Some e) at)) before.0 before.1
+
+pub untold-all : (t : ℕ) (v : View) (row : List ℕ) → HasToldNone t v → AreUntold t v row 0
+untold-all t v row none j a behind at = (none.notices a, none.marks a)
+
+-- ---- nothing else was done
+
+pub told-nothing : (t : ℕ) (v : View) → HasTold t v v
+told-nothing t v = record { more = []; facts = refl; only = All-nil (IsTellingFact t); clock = refl }
+
+told-fact : (t : ℕ) (f : Fact) (v w : View) → IsTellingFact t f → HasTold t v w → HasTold t v (learned f w)
+told-fact t f v w telling told = record {
+  more = f ∷ told.more;
+  facts = ap (λ (fs : List Fact). f ∷ fs) told.facts;
+  only = All-cons (IsTellingFact t) f told.more telling told.only;
+  clock = told.clock;
+}
+
+pub told-pair : (bad : Bool) (t next left : ℕ) (v w : View) → HasTold t v w → HasTold t v (told_view bad t next left w)
+told-pair true t next left v w told = told-fact t (Noticed t next left) v (learned (Marked t next) w) refl (told-fact t (Marked t next) v w refl told)
+told-pair false t next left v w told = told-fact t (Noticed t next left) v w refl told
+
+-- what holds of a mark and of a notice holds of each fact that tells
+telling-any : (P : Fact → Type 0) → ((s u : ℕ) → P (Marked s u)) → ((s u left : ℕ) → P (Noticed s u left)) → (t : ℕ) (f : Fact) → IsTellingFact t f → P f
+telling-any P marked noticed t (Marked s u) telling = marked s u
+telling-any P marked noticed t (Noticed s u left) telling = noticed s u left
+telling-any P marked noticed t (Claimed u) telling = elim telling [ ]
+telling-any P marked noticed t (Refused u n) telling = elim telling [ ]
+telling-any P marked noticed t (Began u n) telling = elim telling [ ]
+telling-any P marked noticed t (Ended u n o) telling = elim telling [ ]
+telling-any P marked noticed t (Took x) telling = elim telling [ ]
+telling-any P marked noticed t (Away x) telling = elim telling [ ]
+telling-any P marked noticed t (Gave x) telling = elim telling [ ]
+telling-any P marked noticed t (Put u x) telling = elim telling [ ]
+
+pub told-events : (t : ℕ) (v w : View) → HasTold t v w → HaveSameEvents v.facts w.facts
+told-events t v w told = rw told.facts (quiet-events (IsTellingFact t) (telling-any IsNoEvent (λ s u. tt) (λ s u left. tt) t) told.more v.facts told.only)
+
+pub told-free : (t x : ℕ) (v w : View) → HasTold t v w → NotHolds v x → NotHolds w x
+told-free t x v w told free = rw told.facts (omega (
+  arith,
+  free,
+  more-weigh (took_of x) (IsTellingFact t) (telling-any (λ (f : Fact). took_of x f ≡ 0) (λ s u. refl) (λ s u left. refl) t) told.more v.facts told.only,
+  more-weigh (gave_of x) (IsTellingFact t) (telling-any (λ (f : Fact). gave_of x f ≡ 0) (λ s u. refl) (λ s u left. refl) t) told.more v.facts told.only,
+))
+
+-- ---- what is pushed
+
+same-is : (a b : ℕ) → a ≡ b → same a b ≡ 1
+unfolding same
+same-is a b e = rw (eq-eqb a b e) refl
+
+same-not : (a b : ℕ) → a ≢ b → same a b ≡ 0
+unfolding same
+same-not a b other = rw (ne_eqb a b other) refl
+
+-- a step into which an edge goes is no root
+pub no-root : (key : BoardKey) (t next : ℕ) → 0 < edge key t next → root key next ≡ 0
+no-root key t next is =
+    let steps = edge-steps key t next is in
+    let some = sum_below-at (λ s. edge key s next) t (step_count key + 1) (omega (arith, steps.0.1)) in
+    let heavy : preds key next ≢ 0 = λ none. omega arith in
+    rw (ne_eqb (preds key next) 0 heavy) refl
+
+pub tied-told : (key : BoardKey) (bad : Bool) (t next left : ℕ) (hand : Hand) (v : View) → AreTied key hand v → AreTied key hand (told_view bad t next left v)
+tied-told key bad t next left hand v tied x = omega (arith, tied x, marked-last bad t next x v)
+
+pub not-pushed : (key : BoardKey) (bad : Bool) (t next : ℕ) (hand : Hand) (v : View) → AreTied key hand v → 0 < edge key t next → NoLast next (marked_view bad t next v)
+    → times next hand.pushed ≡ 0
+not-pushed key bad t next hand v tied is none = omega (arith, tied next, marked-last bad t next next v, no-root key t next is)
+
+pub tied-pushed : (key : BoardKey) (bad : Bool) (t next : ℕ) (hand : Hand) (v : View) → AreTied key hand v → 0 < edge key t next → NoLast next (marked_view bad t next v)
+    → AreTied key (after_push next hand) (told_view bad t next 0 v)
+tied-pushed key bad t next hand v tied is none x = go (cases_eq x next)
+  where
+    go : (x ≡ next) ⊎ (x ≢ next) → same next x + times x hand.pushed ≤ (same_pair next 0 x 0 + weigh (last_of x) (marked_view bad t next v).facts) + root key x
+    go (inl e) = omega (
+      arith,
+      same-is next x (sym e),
+      same_pair-eq next 0 x 0 (sym e) refl,
+      ap (λ y. times y hand.pushed) e,
+      not-pushed key bad t next hand v tied is none,
+    )
+    go (inr other) = omega (arith, tied x, marked-last bad t next x v, same-not next x (λ e. other (sym e)))
+
+-- ---- a step that has just ended
+
+pub ended-as : (t n : ℕ) (o : StepOutcome) (v : View) → HasEndedAs (is_bad o) t (learned (Ended t n o) v)
+ended-as t n Ran v = omega (arith, same-eq t t refl)
+ended-as t n Skipped v = omega (arith, same-eq t t refl)
+ended-as t n (Failed row col) v = omega (arith, same-eq t t refl)

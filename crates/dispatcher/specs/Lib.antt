@@ -1,0 +1,9 @@
+pub mod Copying
+pub mod Courses
+pub mod Crews
+pub mod Desks
+pub mod Doing
+pub mod Joining
+pub mod Plans
+pub mod Telling
+pub mod Workers

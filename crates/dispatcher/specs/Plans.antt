@@ -1,0 +1,19 @@
+-- What a run is asked for.
+use Rattle.std.specs.Prelude.{ℕ, ◌≤◌, length}
+use Rattle.equation.specs.Jobs.{IsJob}
+use Rattle.step_replays.specs.Fits.{FitsJob}
+use Rattle.block_store.specs.Keys.{most_steps}
+use Rattle.dispatcher.specs.declared.plan.Plan.{Plan}
+
+-- how many workers a run has at most
+abbrev pub most_workers : ℕ
+most_workers = 16
+
+-- the steps fit the job under a block size, there aren't too many, and there is a worker, and no more than sixteen
+pub record IsPlan (p : Plan) : Type 0 where
+  pub job : IsJob p.job.now
+  pub size : 1 ≤ p.b
+  pub fit : FitsJob p.job.now p.b p.steps.now
+  pub few : length p.steps.now ≤ most_steps
+  pub some_worker : 1 ≤ p.workers
+  pub few_workers : p.workers ≤ most_workers

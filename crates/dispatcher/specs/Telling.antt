@@ -1,0 +1,60 @@
+-- What a seat learns while it tells the steps behind one that has ended, and what it pushes for that.
+use Rattle.std.specs.Prelude.{◌≡◌, ℕ, ◌+◌, ◌≤◌, ◌<◌, List, ◌++◌, All, Bool, true, false, ◌==◌, if◌then◌else◌}
+use Rattle.block_store.specs.declared.key.BoardKey.{BoardKey}
+use Rattle.block_store.specs.declared.view.Fact.{Fact}
+use Rattle.block_store.specs.declared.view.Fact.TheVariants.{Marked, Noticed}
+use Rattle.block_store.specs.declared.view.View.{View}
+use Rattle.block_store.specs.Keys.{preds}
+use Rattle.block_store.specs.Plays.{NotMarked, NotNoticed, HasEndedBad}
+use Rattle.block_store.specs.Tallies.{weigh, good_of, last_of}
+use Rattle.block_store.specs.Views.{learned}
+use Rattle.ready_queue.specs.declared.hand.Hand.{Hand}
+use Rattle.ready_queue.specs.Hands.{times}
+use Rattle.ready_queue.specs.Queues as queues
+use Rattle.ready_queue.specs.declared.queue.Pass.{Pass}
+
+-- step t has ended in this view, badly or well
+abbrev pub HasEndedAs : Bool → ℕ → View → Type 0
+HasEndedAs true t v = HasEndedBad v t
+HasEndedAs false t v = 0 < weigh (good_of t) v.facts
+
+-- the view has told no step of the end of t
+pub record HasToldNone (t : ℕ) (v : View) : Type 0 where
+  pub notices : (u : ℕ) → NotNoticed v t u
+  pub marks : (u : ℕ) → NotMarked v t u
+
+-- a step was marked or told, for step t
+abbrev pub IsTellingFact : ℕ → Fact → Type 0
+IsTellingFact t (Marked s u) = s ≡ t
+IsTellingFact t (Noticed s u left) = s ≡ t
+IsTellingFact t _ = ⊥
+
+-- nothing was done but to tell steps of the end of t
+pub record HasTold (t : ℕ) (before after : View) : Type 0 where
+  pub more : List Fact
+  pub facts : after.facts ≡ more ++ before.facts
+  pub only : All (IsTellingFact t) more
+  pub clock : after.clock ≡ before.clock
+
+-- 1 for a step into which no edge goes, else 0
+abbrev pub root : BoardKey → ℕ → ℕ
+root key x = if preds key x == 0 then 1 else 0
+
+-- a step was pushed, in the view of a pass, only where a seat with this view told it last, or no edge goes into it
+abbrev pub AreTied : BoardKey → Hand → View → Type 0
+AreTied key hand v = (x : ℕ) → times x hand.pushed ≤ weigh (last_of x) v.facts + root key x
+
+-- the same of a pass
+abbrev pub IsTied : BoardKey → Pass → View → Type 0
+IsTied key pass v = AreTied key (queues.view pass) v
+
+-- ---- one step is told
+
+-- the view once `next` is marked to be skipped, where t ended badly
+abbrev pub marked_view : Bool → ℕ → ℕ → View → View
+marked_view true t next v = learned (Marked t next) v
+marked_view false t next v = v
+
+-- and once it is told, with so many edges left
+abbrev pub told_view : Bool → ℕ → ℕ → ℕ → View → View
+told_view bad t next left v = learned (Noticed t next left) (marked_view bad t next v)
