@@ -28,7 +28,7 @@ same_make_numbers n m seed n' m' seed' xs ys are also e = (
 same_sizes : (b k b' k' : ℕ) (xs ys : List (List ℕ)) → AreSizes b k → AreSizes b' k'
     → size_words b k ++ xs ≡ size_words b' k' ++ ys → (b ≡ b') × (k ≡ k') × (xs ≡ ys)
 same_sizes b k b' k' xs ys are also e =
-    (same_number b b' (omega (arith, are.block_high)) (omega (arith, also.block_high)) (cc), are.one_worker ∙ sym also.one_worker, cc)
+    (same_number b b' (omega (arith, are.block_high)) (omega (arith, also.block_high)) (cc), same_number k k' (omega (arith, are.few_workers)) (omega (arith, also.few_workers)) (cc), cc)
 
 -- ---- runs
 

@@ -57,21 +57,21 @@ no_block words one first none block workers rest are =
 
 -- what isn't behind the block size
 behind_block : (words one two : List (List ℕ)) (b : ℕ) → words ≡ codes "--block" ∷ one → one ≡ decimal b ∷ two
-    → ((workers : ℕ) (rest : List (List ℕ)) → workers ≡ 1 → two ≢ codes "--workers" ∷ decimal workers ∷ rest) → NoSizes words
+    → ((workers : ℕ) (rest : List (List ℕ)) → 1 ≤ workers → workers ≤ 16 → two ≢ codes "--workers" ∷ decimal workers ∷ rest) → NoSizes words
 behind_block words one two b first second none block workers rest are =
     no_tail (codes "--block") (codes "--block") words one (decimal block ∷ codes "--workers" ∷ decimal workers ∷ rest) first
-    (no_tail (decimal b) (decimal block) one two (codes "--workers" ∷ decimal workers ∷ rest) second (none workers rest are.one_worker))
+    (no_tail (decimal b) (decimal block) one two (codes "--workers" ∷ decimal workers ∷ rest) second (none workers rest are.some_worker are.few_workers))
 
 pub no_workers_word : (words one two : List (List ℕ)) (b : ℕ) → words ≡ codes "--block" ∷ one → one ≡ decimal b ∷ two
     → NoWord (codes "--workers") two → NoSizes words
 no_workers_word words one two b first second none =
-    behind_block words one two b first second (λ workers rest is_one. none (decimal workers ∷ rest))
+    behind_block words one two b first second (λ workers rest some few. none (decimal workers ∷ rest))
 
 pub no_workers : (words one two three : List (List ℕ)) (b : ℕ) → words ≡ codes "--block" ∷ one → one ≡ decimal b ∷ two
-    → two ≡ codes "--workers" ∷ three → NoNumber 1 1 three → NoSizes words
-no_workers words one two three b first second third none = behind_block words one two b first second (λ workers rest is_one.
+    → two ≡ codes "--workers" ∷ three → NoNumber 1 16 three → NoSizes words
+no_workers words one two three b first second third none = behind_block words one two b first second (λ workers rest some few.
     no_tail (codes "--workers") (codes "--workers") two three (decimal workers ∷ rest) third
-    (none workers rest (omega arith) (omega arith)))
+    (none workers rest some few))
 
 -- ---- words begin so, or not
 
@@ -148,14 +148,14 @@ pub sizes_or_none : (words : List (List ℕ)) → SizesOrNone words
 sizes_or_none words = at_block_word (word_or_none (codes "--block") words)
   where
     at_workers : (one two three : List (List ℕ)) (b : ℕ) → 1 ≤ b → b ≤ 1024 → words ≡ codes "--block" ∷ one → one ≡ decimal b ∷ two
-        → two ≡ codes "--workers" ∷ three → NumberOrNone 1 1 three → SizesOrNone words
+        → two ≡ codes "--workers" ∷ three → NumberOrNone 1 16 three → SizesOrNone words
     at_workers one two three b low high first second third (inr none) = inr (no_workers words one two three b first second third none)
     at_workers one two three b low high first second third (inl (k, rest, from, to, fourth)) =
         inl (
           b,
           k,
           rest,
-          record { block_low = low; block_high = high; one_worker = omega arith },
+          record { block_low = low; block_high = high; some_worker = from; few_workers = to },
           first ∙ ap (λ (l : List (List ℕ)). codes "--block" ∷ l) (second ∙ ap (λ (l : List (List ℕ)). decimal b ∷ l)
               (third ∙ ap (λ (l : List (List ℕ)). codes "--workers" ∷ l) fourth)),
         )
@@ -164,7 +164,7 @@ sizes_or_none words = at_block_word (word_or_none (codes "--block") words)
         → WordOrNone (codes "--workers") two → SizesOrNone words
     at_workers_word one two b low high first second (inr none) = inr (no_workers_word words one two b first second none)
     at_workers_word one two b low high first second (inl (three, third)) =
-        at_workers one two three b low high first second third (number_first_or_none 1 1 three (lit< tt))
+        at_workers one two three b low high first second third (number_first_or_none 1 16 three (lit< tt))
 
     at_block : (one : List (List ℕ)) → words ≡ codes "--block" ∷ one → NumberOrNone 1 1024 one → SizesOrNone words
     at_block one first (inr none) = inr (no_block words one first none)

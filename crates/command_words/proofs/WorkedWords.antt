@@ -15,8 +15,8 @@ plain_run : words_of (Run (record { block = 1024; workers = 1; choice = First; t
 unfolding digits
 plain_run = refl
 
-varied_run : words_of (Run (record { block = 2; workers = 1; choice = Each (5 ∷ 12 ∷ 1 ∷ []); trace = true }))
-    ≡ codes "run" ∷ codes "--block" ∷ codes "2" ∷ codes "--workers" ∷ codes "1" ∷ codes "--variants" ∷ codes "5,12,1" ∷ codes "--trace" ∷ []
+varied_run : words_of (Run (record { block = 2; workers = 16; choice = Each (5 ∷ 12 ∷ 1 ∷ []); trace = true }))
+    ≡ codes "run" ∷ codes "--block" ∷ codes "2" ∷ codes "--workers" ∷ codes "16" ∷ codes "--variants" ∷ codes "5,12,1" ∷ codes "--trace" ∷ []
 unfolding digits
 varied_run = refl
 

@@ -51,11 +51,16 @@ pub record AreMakeNumbers (n m seed : ℕ) : Type 0 where
   pub m_high : m < 2 ^ 32
   pub seed_high : seed < 2 ^ 32
 
--- a block size is 1 to 1,024, and one worker runs
+-- how many workers a run has at most
+abbrev pub most_workers : ℕ
+most_workers = 16
+
+-- a block size is 1 to 1,024, and there are 1 to 16 workers
 pub record AreSizes (block workers : ℕ) : Type 0 where
   pub block_low : 1 ≤ block
   pub block_high : block ≤ 1024
-  pub one_worker : workers ≡ 1
+  pub some_worker : 1 ≤ workers
+  pub few_workers : workers ≤ most_workers
 
 -- at least one number of a variant, each at least 1
 pub record AreVariants (numbers : List ℕ) : Type 0 where
@@ -137,3 +142,10 @@ ReadsInput Verify = Unit {0}
 ReadsInput (Make n m seed) = ⊥
 ReadsInput (Run words) = Unit {0}
 ReadsInput (SelfRun words) = ⊥
+
+-- ---- how many workers it asks for
+
+abbrev pub workers_of : Command → ℕ
+workers_of (Run words) = words.workers
+workers_of (SelfRun words) = words.workers
+workers_of _ = 1

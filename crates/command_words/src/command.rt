@@ -1,5 +1,8 @@
 //! The commands.
 
+ghost use Rattle.std.specs.Prelude.{◌≡◌};
+ghost use Rattle.command_words.specs.Words.{workers_of};
+
 use issue_list::Choice;
 use variant_report::SelfWords;
 
@@ -8,7 +11,7 @@ use variant_report::SelfWords;
 pub struct RunWords {
     /// The block size, 1 to 1,024.
     pub block: u32,
-    /// How many workers run, 1.
+    /// How many workers run, 1 to 16.
     pub workers: u32,
     /// The variant of each statement. Given numbers are at least one, each at least 1.
     pub choice: Choice,
@@ -29,4 +32,17 @@ pub enum Command {
     Run { words: RunWords },
     /// `selfrun N M SEED --block B --workers K`: runs the generated job and prints a summary.
     SelfRun { words: SelfWords },
+}
+
+impl Command {
+    /// How many workers it asks for; one that runs nothing goes by one.
+    pub fn workers(&self) -> u32
+        ensures { result ≡ workers_of self.now }
+    {
+        match self {
+            Command::Run { words } => words.workers,
+            Command::SelfRun { words } => words.workers,
+            Command::Derive | Command::Verify | Command::Make { .. } => 1,
+        }
+    }
 }

@@ -81,7 +81,7 @@ pub fn size_numbers(words: &[String]) -> Option<SizeNumbers>
         size_words x.block x.workers ++ map string_bytes x.rest.now)) }
 {
     let block = number_first(behind(words, "--block")?, 1, 1024)?;
-    let workers = number_first(behind(block.rest, "--workers")?, 1, 1)?;
+    let workers = number_first(behind(block.rest, "--workers")?, 1, 16)?;
     Some(SizeNumbers {
         block: block.number,
         workers: workers.number,

@@ -13,7 +13,7 @@ use Rattle.flame_top.specs.Derive.{DueFamilies}
 use Rattle.flame_top.specs.Due.{Due, DueCommand, DueInput}
 use Rattle.flame_top.specs.DueTexts.{DueShort}
 use Rattle.flame_top.specs.Meaning.{DueMeaning, PrintedText}
-use Rattle.flame_top.specs.Run.{DueRun, run_text}
+use Rattle.flame_top.specs.Run.{DueEvents, DueRun, run_text}
 use Rattle.flame_top.specs.SelfRun.{DueSelfRun, job_of, self_text}
 use Rattle.flame_top.specs.Steps.{DueBySteps}
 use Rattle.flame_top.specs.Verify.{DueVerify}
@@ -45,16 +45,18 @@ meaning_is_due : (job : Job) (printed : PrintedText) (status : ℕ) (text : List
 meaning_is_due job printed status text (inl result) = zero_is_due status result.2.0
 meaning_is_due job printed status text (inr bad) = bad_pivot_is_due status bad.3.0
 
-by_steps_is_due : (b : ℕ) (choice : Choice) (job : Job) (printed : PrintedText) (status : ℕ) (text : List ℕ)
-    → DueBySteps b choice job (DueMeaning job printed) status text → IsDueStatus status
-by_steps_is_due b choice job printed status text (inl refused) = refusal_is_due status (refused_status b choice job status text refused)
-by_steps_is_due b choice job printed status text (inr listed) = meaning_is_due job printed status text listed.1
+by_steps_is_due : (b : ℕ) (choice : Choice) (job : Job) (due : ℕ → List ℕ → Type 0) → ((status : ℕ) (text : List ℕ) → due status text → IsDueStatus status)
+    → (status : ℕ) (text : List ℕ) → DueBySteps b choice job due status text → IsDueStatus status
+by_steps_is_due b choice job due is_due status text (inl refused) = refusal_is_due status (refused_status b choice job status text refused)
+by_steps_is_due b choice job due is_due status text (inr listed) = is_due status text listed.1
 
 run_is_due : (words : RunWords) (job : Job) (status : ℕ) (text : List ℕ) → DueRun words job status text → IsDueStatus status
-run_is_due words job = by_steps_is_due words.block words.choice job (run_text words job)
+run_is_due words job = by_steps_is_due words.block words.choice job (DueEvents words job)
+    (λ status text due. meaning_is_due job (run_text words job due.0) status text due.2)
 
 selfrun_is_due : (words : SelfWords) (status : ℕ) (text : List ℕ) → DueSelfRun words status text → IsDueStatus status
-selfrun_is_due words = by_steps_is_due words.block First (job_of words) (self_text words (job_of words))
+selfrun_is_due words = by_steps_is_due words.block First (job_of words) (DueMeaning (job_of words) (self_text words (job_of words)))
+    (meaning_is_due (job_of words) (self_text words (job_of words)))
 
 verify_is_due : (input : List ℕ) (status : ℕ) (text : List ℕ) → DueVerify input status text → IsDueStatus status
 verify_is_due input status text (inl (job, rest, spells, inl (after, spelled, inl all))) = zero_is_due status all.1

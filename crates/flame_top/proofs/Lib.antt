@@ -1,6 +1,7 @@
 mod Delivered
 mod DueLaws
 mod DueStatuses
+mod EventsAlone
 mod FirstLong
 mod JoinedTexts
 mod MeaningLaws

@@ -11,7 +11,7 @@ use Rattle.flame_top.specs.DueTexts.{Says}
 use Rattle.flame_top.specs.Refusals.{no_variant_text, too_many_parts_text, too_many_steps_text, variant_count_text}
 use Rattle.flame_top.specs.Steps.{CanList, DueBySteps, DueNoVariant, DueRefused, DueTooManyParts, DueTooManySteps, DueVariantCount, dimension_name, steps_by}
 use Rattle.flame_top.proofs.FirstLong.{first_long_or_few, long_not_few, one_first_long}
-use Rattle.flame_top.proofs.SameDue.{IsDetermined, IsSomeDue, same_either, same_says}
+use Rattle.flame_top.proofs.SameDue.{AreAlike, IsDetermined, IsSomeDue, alike_same, same_either, same_says}
 
 module _ (b : ℕ) (choice : Choice) (job : Job) where
   numbers : List ℕ
@@ -100,12 +100,16 @@ module _ (b : ℕ) (choice : Choice) (job : Job) where
 
   -- ---- what is due by steps
 
-  module _ (due : ℕ → List ℕ → Type 0) where
-    pub same_by_steps : IsDetermined due → IsDetermined (DueBySteps b choice job due)
-    same_by_steps one = same_either (DueRefused b choice job) (λ status text. CanList b choice job × due status text) same_refused
-        (λ status other text different is is_other. one status other text different is.1 is_other.1)
-        (λ status other text different is later. refused_or_listed status text is later.0)
+  -- two answers are alike where what is due for the steps is
+  module _ (alike : List ℕ → List ℕ → Type 0) (itself : (text : List ℕ) → alike text text) (due second : ℕ → List ℕ → Type 0) where
+    pub alike_by_steps : AreAlike alike due second → AreAlike alike (DueBySteps b choice job due) (DueBySteps b choice job second)
+    alike_by_steps are status other text different (inl refused) (inl refused_other) =
+        alike_same alike itself status other text different (same_refused status other text different refused refused_other)
+    alike_by_steps are status other text different (inl refused) (inr listed) = absurd (refused_or_listed status text refused listed.0)
+    alike_by_steps are status other text different (inr listed) (inl refused) = absurd (refused_or_listed other different refused listed.0)
+    alike_by_steps are status other text different (inr listed) (inr listed_other) = are status other text different listed.1 listed_other.1
 
+  module _ (due : ℕ → List ℕ → Type 0) where
     pub some_by_steps : IsSomeDue due → IsSomeDue (DueBySteps b choice job due)
     some_by_steps is = elim some_refused_or_listed [
       | inl refused ↦ (refused.0, refused.1, inl refused.2)

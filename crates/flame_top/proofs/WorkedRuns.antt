@@ -20,7 +20,7 @@ use Rattle.variant_report.specs.TraceTexts.{trace_text}
 use Rattle.job_generator.specs.GeneratedOperations.{prod, lu, solve}
 use Rattle.job_generator.specs.GeneratedJobs.{generated_job, statement}
 use Rattle.command_words.specs.declared.command.RunWords.{RunWords}
-use Rattle.flame_top.specs.Run.{ordered_trace, run_text}
+use Rattle.flame_top.specs.Run.{run_text, trace_part}
 use Rattle.flame_top.specs.SelfRun.{job_of, self_text}
 use Rattle.flame_top.specs.Steps.{steps_by}
 
@@ -77,8 +77,8 @@ printed_steps : result_text factored left_matrix ++ trace_text column_steps colu
 unfolding digits factored
 printed_steps = refl
 
-printed_run : run_text run_words factored left_matrix ≡ printed
-printed_run = subst (λ steps. result_text factored left_matrix ++ ordered_trace steps ≡ printed) (sym listed_steps)
+printed_run : run_text run_words factored (in_order 5) left_matrix ≡ printed
+printed_run = subst (λ steps. result_text factored left_matrix ++ trace_part true steps (in_order 5) ≡ printed) (sym listed_steps)
     (subst (λ edges. result_text factored left_matrix ++ trace_text column_steps edges (in_order 5) ≡ printed) (sym joined_steps) printed_steps)
 
 -- ---- a generated job of two rows under blocks of three, which has 1 + 1 + 1 + 2 steps

@@ -2,11 +2,14 @@ pub mod Answers
 pub mod Derive
 pub mod Due
 pub mod DueTexts
+pub mod Events
 pub mod Listings
 pub mod Make
 pub mod Meaning
+pub mod Plannings
 pub mod Refusals
 pub mod Run
+pub mod SameTexts
 pub mod SelfRun
 pub mod Steps
 pub mod Verify

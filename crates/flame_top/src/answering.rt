@@ -1,22 +1,25 @@
-//! What every command does: its input is read whole, its output is composed, and then it is written.
+//! What every command does: its input is read whole, its output is composed, and then it is written. The calls whose
+//! names have `many` do so with several workers.
 
 ghost use Rattle.std.specs.Prelude.{◌≡◌, ◌≢◌, ◌≤◌, ◌⊎◌, List, ℕ, length, IfOk, IsErrOf, codes};
 ghost use Rattle.std.specs.Io.KnownBytes.{Consumes, IsAtEnd};
 ghost use Rattle.outside_io.specs.Causes.{Rose};
 ghost use Rattle.flame_top.specs.Due.{DueCommand, DueInput};
 ghost use Rattle.flame_top.specs.Answers.{Answers, IsDueStatus, Delivers, DueFrom, state_of};
-ghost use Rattle.command_words.specs.Words.{IsInRange, ReadsInput};
+ghost use Rattle.command_words.specs.Words.{IsInRange, ReadsInput, workers_of};
 ghost use Rattle.flame_top.specs.declared.answering.Halt.TheVariants.{Memory};
 
 use crate::derive::derive_output;
 use crate::make::make_output;
 use crate::output::Output;
-use crate::run::run_output;
-use crate::selfrun::selfrun_output;
+use crate::run::{run_many_output, run_output};
+use crate::selfrun::{selfrun_many_output, selfrun_output};
 use crate::verify::verify_output;
 use command_words::Command;
-use outside_io::{Failed, ReadEnd, Sink, Source, read_all, write_all};
+use outside_io::{Failed, Gate, ReadEnd, Sink, Source, read_all, write_all};
 use std::alloc::{AllocError, Global};
+use std::sync::Wait;
+use std::thread::Threads;
 
 /// An input may have so many bytes.
 const LIMIT: u32 = 67_108_864;
@@ -50,6 +53,7 @@ fn too_long(alloc: Global) -> Result<Output, AllocError>
 
 /// Composes the output of a command for an input, which a command that reads none doesn't look at.
 fn input_output(alloc: Global, command: &Command, bytes: &[u8]) -> Result<Output, AllocError>
+    requires one { workers_of command.now ≡ 1 }
     requires range { IsInRange command.now }
     requires short { length bytes.now ≤ 67108864 }
     ensures { IfOk result (λ output.
@@ -64,12 +68,34 @@ fn input_output(alloc: Global, command: &Command, bytes: &[u8]) -> Result<Output
     }
 }
 
+/// Composes the output of a run by several workers for an input, which a generated job doesn't look at.
+fn input_many_output<R: Threads + Wait + Sync, G: Gate>(
+    rt: &R,
+    alloc: Global,
+    command: &Command,
+    bytes: &[u8],
+    gate: &G,
+) -> Result<Output, AllocError>
+    requires many { 2 ≤ workers_of command.now }
+    requires range { IsInRange command.now }
+    requires short { length bytes.now ≤ 67108864 }
+    ensures { IfOk result (λ output.
+        DueInput command.now bytes.now output.status output.text.items) }
+{
+    match command {
+        Command::Run { words } => Ok(run_many_output(rt, alloc, bytes, words, gate)?),
+        Command::SelfRun { words } => Ok(selfrun_many_output(rt, alloc, *words, gate)?),
+        Command::Derive | Command::Verify | Command::Make { .. } => unreachable!(),
+    }
+}
+
 /// Reads the source to its end, and composes the output of a command.
 fn command_output<S: Source>(
     alloc: Global,
     command: &Command,
     source: &mut S,
 ) -> Result<Output, Halt>
+    requires one { workers_of command.now ≡ 1 }
     requires range { IsInRange command.now }
     requires reads { ReadsInput command.now }
     ensures due { IfOk result (λ output. DueFrom (DueCommand command.now) (S.left source.old)
@@ -81,6 +107,32 @@ fn command_output<S: Source>(
 {
     match read_all(alloc, source, LIMIT) {
         Ok(bytes) => Ok(input_output(alloc, command, &bytes)?),
+        Err(ReadEnd::TooLong) => Ok(too_long(alloc)?),
+        Err(ReadEnd::ReadFault) => Err(Halt::ReadFault),
+        Err(ReadEnd::Memory) => Err(Halt::Memory),
+    }
+}
+
+/// Reads the source to its end, and composes the output of a run by several workers.
+fn command_many_output<R: Threads + Wait + Sync, S: Source, G: Gate>(
+    rt: &R,
+    alloc: Global,
+    command: &Command,
+    source: &mut S,
+    gate: &G,
+) -> Result<Output, Halt>
+    requires many { 2 ≤ workers_of command.now }
+    requires range { IsInRange command.now }
+    requires reads { ReadsInput command.now }
+    ensures due { IfOk result (λ output. DueFrom (DueCommand command.now) (S.left source.old)
+        output.status output.text.items) }
+    ensures read_fault { IsErrOf result Halt.ReadFault → Rose (S.faults source.old) (S.faults source.new) }
+    ensures quiet { result ≢ Err Halt.ReadFault → S.faults source.new ≡ S.faults source.old }
+    ensures taken { (front : List ℕ) × Consumes (S.left source.old) (S.left source.new) front }
+    ensures ended { IfOk result (λ output. output.status ≢ 3 → IsAtEnd (S.left source.new)) }
+{
+    match read_all(alloc, source, LIMIT) {
+        Ok(bytes) => Ok(input_many_output(rt, alloc, command, &bytes, gate)?),
         Err(ReadEnd::TooLong) => Ok(too_long(alloc)?),
         Err(ReadEnd::ReadFault) => Err(Halt::ReadFault),
         Err(ReadEnd::Memory) => Err(Halt::Memory),
@@ -105,6 +157,7 @@ pub fn answer_command<S: Source, K: Sink>(
     source: &mut S,
     sink: &mut K,
 ) -> u8
+    requires one { workers_of command.now ≡ 1 }
     requires range { IsInRange command.now }
     requires reads { ReadsInput command.now }
     ensures answers { Answers (DueCommand command.now)
@@ -120,6 +173,31 @@ pub fn answer_command<S: Source, K: Sink>(
     }
 }
 
+/// Reads the source to its end, composes the output of a run by several workers, and writes it.
+pub fn answer_many<R: Threads + Wait + Sync, S: Source, K: Sink, G: Gate>(
+    rt: &R,
+    alloc: Global,
+    command: &Command,
+    source: &mut S,
+    sink: &mut K,
+    gate: &G,
+) -> u8
+    requires many { 2 ≤ workers_of command.now }
+    requires range { IsInRange command.now }
+    requires reads { ReadsInput command.now }
+    ensures answers { Answers (DueCommand command.now)
+        (state_of S.left S.faults source.old) (state_of S.left S.faults source.new)
+        (state_of K.held K.faults sink.old) (state_of K.held K.faults sink.new) result }
+    ensures ended { IsDueStatus result → result ≢ 3 → IsAtEnd (S.left source.new) }
+    ensures untouched { (result ≡ 1) ⊎ (result ≡ 5) → sink.new ≡ sink.old }
+{
+    match command_many_output(rt, alloc, command, source, gate) {
+        Ok(output) => deliver(sink, output.status, &output.text),
+        Err(Halt::Memory) => 5,
+        Err(Halt::ReadFault) => 1,
+    }
+}
+
 /// Composes the output of a command that reads no input, and writes it. The source stays as it is.
 pub fn answer_alone<S: Source, K: Sink>(
     alloc: Global,
@@ -127,6 +205,7 @@ pub fn answer_alone<S: Source, K: Sink>(
     source: &mut S,
     sink: &mut K,
 ) -> u8
+    requires one { workers_of command.now ≡ 1 }
     requires range { IsInRange command.now }
     requires alone { ¬ (ReadsInput command.now) }
     ensures answers { Answers (DueCommand command.now)
@@ -136,6 +215,30 @@ pub fn answer_alone<S: Source, K: Sink>(
     ensures untouched { result ≡ 5 → sink.new ≡ sink.old }
 {
     match input_output(alloc, command, b"") {
+        Ok(output) => deliver(sink, output.status, &output.text),
+        Err(AllocError) => 5,
+    }
+}
+
+/// Composes the output of a run of the generated job by several workers, and writes it. The source stays as it is.
+pub fn answer_many_alone<R: Threads + Wait + Sync, S: Source, K: Sink, G: Gate>(
+    rt: &R,
+    alloc: Global,
+    command: &Command,
+    source: &mut S,
+    sink: &mut K,
+    gate: &G,
+) -> u8
+    requires many { 2 ≤ workers_of command.now }
+    requires range { IsInRange command.now }
+    requires alone { ¬ (ReadsInput command.now) }
+    ensures answers { Answers (DueCommand command.now)
+        (state_of S.left S.faults source.old) (state_of S.left S.faults source.new)
+        (state_of K.held K.faults sink.old) (state_of K.held K.faults sink.new) result }
+    ensures unread { (source.new ≡ source.old) × (result ≢ 1) }
+    ensures untouched { result ≡ 5 → sink.new ≡ sink.old }
+{
+    match input_many_output(rt, alloc, command, b"", gate) {
         Ok(output) => deliver(sink, output.status, &output.text),
         Err(AllocError) => 5,
     }

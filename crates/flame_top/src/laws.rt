@@ -1,6 +1,7 @@
 //! What the relation of what is due means. Each law is the contract of a function that does nothing.
-//! Together they say that for all words and each input exactly one status and one text are due, that a run's result depends neither
-//! on the variants nor on the block size, and what a call's promise comes to where nothing fails.
+//! Together they say that for all words and each input exactly one status is due, and one text but for the schedule in the trace of
+//! several workers; that a run's result depends neither on the variants nor on the block size nor on the workers; and what a call's
+//! promise comes to where nothing fails.
 
 ghost use Rattle.std.specs.Prelude.{◌≡◌, ◌≢◌, ◌++◌, ℕ, List, Some, false};
 ghost use Rattle.outside_io.specs.Causes.{Rose};
@@ -10,14 +11,23 @@ ghost use Rattle.equation.specs.Jobs.{IsJob};
 ghost use Rattle.flame_top.specs.Answers.{Answers, StreamState};
 ghost use Rattle.flame_top.specs.Due.{Due};
 ghost use Rattle.flame_top.specs.Run.{DueRun};
+ghost use Rattle.flame_top.specs.SameTexts.{AreSameSummaries, AreSameToSchedule, HasOneText};
 ghost use Rattle.flame_top.specs.SelfRun.{DueSelfRun};
 ghost use Rattle.variant_report.specs.declared.self_words.SelfWords.{SelfWords};
 ghost use Rattle.command_words.specs.Words.{AreSelfWords};
 
-/// For the same words and input at most one status and one text are due.
+/// For the same words and input at most one status is due. One text is due too, unless the words ask for the trace of several
+/// workers; then two texts that are due are the same up to their schedules.
 pub fn due_is_determined()
-    ensures { (words : List (List ℕ)) (input : List ℕ) (status other : ℕ) (text different : List ℕ)
-        → Due words input status text → Due words input other different → (status ≡ other) × (text ≡ different) }
+    ensures status { (words : List (List ℕ)) (input : List ℕ)
+        → (status other : ℕ) (text different : List ℕ)
+        → Due words input status text → Due words input other different → status ≡ other }
+    ensures text { (words : List (List ℕ)) → HasOneText words
+        → (input : List ℕ) (status other : ℕ) (text different : List ℕ)
+        → Due words input status text → Due words input other different → text ≡ different }
+    ensures schedule { (words : List (List ℕ)) (input : List ℕ)
+        → (status other : ℕ) (text different : List ℕ) → Due words input status text
+        → Due words input other different → AreSameToSchedule text different }
 {}
 
 /// For all words and each input a status and a text are due.
@@ -33,6 +43,23 @@ pub fn variants_and_block_sizes_change_no_result()
         → (status other : ℕ) (text different : List ℕ)
         → DueRun words job status text → DueRun changed job other different
         → status ≢ 3 → other ≢ 3 → (status ≡ other) × (text ≡ different) }
+{}
+
+/// The number of workers changes no result: where other words differ from these in it alone, the same status is due for a job, and
+/// the same text but for the schedule of a trace, where a schedule of the same steps stands, or for the number of workers that the
+/// first line of a summary names.
+pub fn workers_change_no_result()
+    ensures run { (job : Job) → IsJob job → (words : RunWords)
+        → (workers status other : ℕ) (text different : List ℕ) → DueRun words job status text
+        → DueRun (record words { workers = workers }) job other different
+        → (status ≡ other) × AreSameToSchedule text different }
+    ensures plain { (job : Job) → IsJob job → (words : RunWords) → words.trace ≡ false
+        → (workers status other : ℕ) (text different : List ℕ) → DueRun words job status text
+        → DueRun (record words { workers = workers }) job other different → text ≡ different }
+    ensures selfrun { (words : SelfWords) → AreSelfWords words
+        → (workers status other : ℕ) (text different : List ℕ) → DueSelfRun words status text
+        → DueSelfRun (record words { workers = workers }) other different → (status ≡ other)
+        × AreSameSummaries words (record words { workers = workers }) text different }
 {}
 
 /// No run of a generated job meets a bad pivot.

@@ -4,9 +4,10 @@
 //! (`derive`, `make`, `run`, `selfrun`, `verify`), and in `specs/`, under the same name, the relation of what is due for it. What
 //! all of them do stands in `answering`: the input, where the command reads one, is read whole, the output is composed, and only
 //! then is the first byte written. `steps` lists the steps of a job, or refuses it, and `meaning` goes through them and prints what
-//! they come to; `run` and `selfrun` go by both. Each fault of the text is refused by name (`refusals`). `program` holds `top`,
-//! which joins them, and `laws` tells that exactly one status and one text are due, and that neither the variants nor the block
-//! size change a result.
+//! they come to; `run` and `selfrun` go by both, with one worker or with several on threads (`workers`). Each fault of
+//! the text is refused by name (`refusals`). `program` holds `top`, which joins them, and `laws` tells that exactly one status is due,
+//! and one text but for the schedule of several workers, and that neither the variants nor the block size nor the workers change a
+//! result.
 #![tactic(auto)]
 
 mod answering;
@@ -21,18 +22,21 @@ mod run;
 mod selfrun;
 mod steps;
 mod verify;
+mod workers;
 
 pub use command_words::{Command, RunWords, read_words};
 pub use derive::derive_cmd;
 pub use laws::{
     due_is_determined, no_selfrun_meets_a_bad_pivot, quiet_streams_get_the_whole_text,
-    something_is_due, variants_and_block_sizes_change_no_result,
+    something_is_due, variants_and_block_sizes_change_no_result, workers_change_no_result,
 };
 pub use make::make_cmd;
 pub use program::top;
-pub use run::run_one_cmd;
-pub use selfrun::selfrun_one_cmd;
+pub use run::{run_many_cmd, run_one_cmd};
+pub use selfrun::{selfrun_many_cmd, selfrun_one_cmd};
 pub use verify::verify_cmd;
 
 #[cfg(test)]
 mod tests;
+#[cfg(test)]
+mod thread_tests;

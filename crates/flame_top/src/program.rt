@@ -10,19 +10,23 @@ ghost use Rattle.flame_top.specs.Answers.{Answers, IsDueStatus, state_of};
 use crate::answering::deliver;
 use crate::derive::derive_cmd;
 use crate::make::make_cmd;
-use crate::run::run_one_cmd;
-use crate::selfrun::selfrun_one_cmd;
+use crate::run::{run_many_cmd, run_one_cmd};
+use crate::selfrun::{selfrun_many_cmd, selfrun_one_cmd};
 use crate::verify::verify_cmd;
 use command_words::{Command, read_words};
 use outside_io::{Gate, Sink, Source};
 use std::alloc::{AllocError, Global};
+use std::sync::Wait;
+use std::thread::Threads;
 
 /// Does what a command asks for, and answers its status.
-fn answer_named<S: Source, K: Sink>(
+fn answer_named<R: Threads + Wait + Sync, S: Source, K: Sink, G: Gate>(
+    rt: &R,
     alloc: Global,
     command: &Command,
     source: &mut S,
     sink: &mut K,
+    gate: &G,
 ) -> u8
     requires { IsInRange command.now }
     ensures answers { Answers (DueCommand command.now)
@@ -37,23 +41,30 @@ fn answer_named<S: Source, K: Sink>(
         Command::Derive => derive_cmd(alloc, command, source, sink),
         Command::Verify => verify_cmd(alloc, command, source, sink),
         Command::Make { .. } => make_cmd(alloc, command, source, sink),
-        Command::Run { .. } => run_one_cmd(alloc, command, source, sink),
-        Command::SelfRun { .. } => selfrun_one_cmd(alloc, command, source, sink),
+        Command::Run { .. } => match command.workers() {
+            1 => run_one_cmd(alloc, command, source, sink),
+            _ => run_many_cmd(rt, alloc, command, source, sink, gate),
+        },
+        Command::SelfRun { .. } => match command.workers() {
+            1 => selfrun_one_cmd(alloc, command, source, sink),
+            _ => selfrun_many_cmd(rt, alloc, command, source, sink, gate),
+        },
     }
 }
 
 /// Does all that the program does, and answers its status. The words are those after the program's name.
 ///
 /// - 2 comes with `bad words` where the words name no command; the source is then as it was.
-/// - Else the status is that of the command's call: `derive_cmd`, `verify_cmd`, `make_cmd`, `run_one_cmd` or `selfrun_one_cmd`.
-///   `make_cmd` and `selfrun_one_cmd` leave the source as it was.
-pub fn top<R: Sync, S: Source, K: Sink, G: Gate>(
-    _rt: &R,
+/// - Else the status is that of the command's call: `derive_cmd`, `verify_cmd`, `make_cmd`, and with one worker `run_one_cmd` or
+///   `selfrun_one_cmd`, with several `run_many_cmd` or `selfrun_many_cmd`. That these last two return isn't promised; all others
+///   do. `make_cmd` and the calls of `selfrun` leave the source as it was.
+pub fn top<R: Threads + Wait + Sync, S: Source, K: Sink, G: Gate>(
+    rt: &R,
     alloc: Global,
     words: &Vec<String>,
     source: &mut S,
     sink: &mut K,
-    _gate: &G,
+    gate: &G,
 ) -> u8
     ensures answers { Answers (Due (map string_bytes words.now.items))
         (state_of S.left S.faults source.old) (state_of S.left S.faults source.new)
@@ -66,7 +77,7 @@ pub fn top<R: Sync, S: Source, K: Sink, G: Gate>(
 {
     match read_words(alloc, words) {
         Ok(None) => deliver(sink, 2, b"bad words\n"),
-        Ok(Some(command)) => answer_named(alloc, &command, source, sink),
+        Ok(Some(command)) => answer_named(rt, alloc, &command, source, sink, gate),
         Err(AllocError) => 5,
     }
 }

@@ -1,51 +1,57 @@
-//! `run`: the matrices that a job leaves, or its first bad pivot, found by block tasks.
+//! `run`: the matrices that a job leaves, or its first bad pivot, found by block tasks of one worker or of several.
 
 ghost use Rattle.std.specs.Prelude.{◌≡◌, ◌≢◌, ◌≤◌, ◌⊎◌, ◌++◌, length, IfOk, OnOk};
 ghost use Rattle.std.specs.Io.KnownBytes.{IsAtEnd};
 ghost use Rattle.equation.specs.Jobs.{IsJob};
 ghost use Rattle.equation.specs.Meanings.{Means};
-ghost use Rattle.step_replays.specs.Fits.{FitsJob};
 ghost use Rattle.issue_list.specs.CanonicalSteps.{most_steps};
+ghost use Rattle.task_values.specs.Outcomes.{IsMeaning};
 ghost use Rattle.variant_report.specs.ResultTexts.{result_text};
-ghost use Rattle.command_words.specs.Words.{AreRunWords, AsksRun, IsInRange};
+ghost use Rattle.command_words.specs.Words.{AreRunWords, AsksRun, IsInRange, workers_of};
 ghost use Rattle.flame_top.specs.Answers.{Answers, IsDueStatus, state_of};
 ghost use Rattle.flame_top.specs.Due.{DueCommand};
 ghost use Rattle.flame_top.specs.DueTexts.{DueShort};
-ghost use Rattle.flame_top.specs.Meaning.{DueMeaning, DueResult};
-ghost use Rattle.flame_top.specs.Run.{DueRun, run_text, trace_part};
+ghost use Rattle.flame_top.specs.Events.{AreEventsOf};
+ghost use Rattle.flame_top.specs.Meaning.{DueResult};
+ghost use Rattle.flame_top.specs.Plannings.{IsPlanned};
+ghost use Rattle.flame_top.specs.Run.{DueEvents, DueRun, trace_part};
 ghost use Rattle.flame_top.specs.Steps.{steps_by};
 
-use crate::answering::answer_command;
+use crate::answering::{answer_command, answer_many};
 use crate::meaning::bad_pivot_output;
 use crate::output::{Output, fault_output};
 use crate::steps::{Listing, list_steps};
+use crate::workers::{go_alone, go_together};
 use command_words::{Command, RunWords};
+use dispatcher::{Finished, Plan};
 use equation::{Job, Place};
 use job_text::{JobFault, Stop, read_job};
 use matrix_core::MatrixList;
-use outside_io::{Sink, Source};
-use schedule_core::edges_of_steps;
+use outside_io::{Gate, Sink, Source};
+use schedule_core::{EventList, edges_of_steps};
 use std::alloc::{AllocError, Global};
+use std::sync::Wait;
+use std::thread::Threads;
 use step_replays::StepList;
-use task_values::{Outcome, replay};
-use variant_report::{ordered_events, write_result, write_trace};
+use task_values::Outcome;
+use variant_report::{write_result, write_trace};
 
-/// Appends, where it is asked for, the trace of one worker that goes through these steps in their order.
+/// Appends, where it is asked for, the trace of these steps that began and ended by a schedule.
 fn put_trace(
     alloc: Global,
     trace: bool,
     steps: &StepList,
+    schedule: &EventList,
     out: &mut Vec<u8>,
 ) -> Result<(), AllocError>
     requires { length steps.now ≤ most_steps }
-    ensures { OnOk result (out.new.items ≡ out.old.items ++ trace_part trace steps.now) }
+    ensures { OnOk result (out.new.items ≡ out.old.items ++ trace_part trace steps.now schedule.now) }
 {
     if !trace {
         return Ok(());
     }
     let edges = edges_of_steps(alloc, steps.as_slice())?;
-    let schedule = ordered_events(alloc, steps.len() as u32)?;
-    write_trace(alloc, steps, &edges, &schedule, out)
+    write_trace(alloc, steps, &edges, schedule, out)
 }
 
 /// Prints the matrices that a job means, and behind them the trace where it is asked for.
@@ -54,38 +60,43 @@ fn result_output(
     job: &Job,
     trace: bool,
     steps: &StepList,
+    schedule: &EventList,
     after: &MatrixList,
 ) -> Result<Output, AllocError>
     requires job { IsJob job.now }
     requires means { Means job.now after.now }
     requires few { length steps.now ≤ most_steps }
     ensures { IfOk result (λ output. DueResult job.now
-        (λ after. result_text job.now after ++ trace_part trace steps.now)
+        (λ after. result_text job.now after ++ trace_part trace steps.now schedule.now)
         output.status output.text.items) }
 {
     let mut text = Vec::new(alloc);
     write_result(alloc, job, after, &mut text)?;
-    put_trace(alloc, trace, steps, &mut text)?;
+    put_trace(alloc, trace, steps, schedule, &mut text)?;
     Ok(Output { status: 0, text })
 }
 
-/// Goes through the steps of a job, and prints what they come to.
-fn steps_output(
+/// Prints what the steps of a job came to.
+fn finished_output(
     alloc: Global,
     job: &Job,
     words: &RunWords,
     steps: &StepList,
+    finished: Finished,
 ) -> Result<Output, AllocError>
     requires job { IsJob job.now }
-    requires size { 1 ≤ words.now.block }
-    requires fit { FitsJob job.now words.now.block steps.now }
     requires steps { steps.now ≡ steps_by job.now words.now.block words.now.choice }
     requires few { length steps.now ≤ most_steps }
+    requires events { AreEventsOf words.now.workers steps.now finished.schedule }
+    requires meaning { IsMeaning job.now finished.outcome }
     ensures { IfOk result (λ output.
-        DueMeaning job.now (run_text words.now job.now) output.status output.text.items) }
+        DueEvents words.now job.now output.status output.text.items) }
 {
-    match replay(alloc, job, words.block, steps)? {
-        Outcome::Done(after) => Ok(result_output(alloc, job, words.trace, steps, &after)?),
+    let Finished { schedule, outcome } = finished;
+    match outcome {
+        Outcome::Done(after) => {
+            Ok(result_output(alloc, job, words.trace, steps, &schedule, &after)?)
+        }
         Outcome::BadPivot {
             statement,
             row,
@@ -97,29 +108,73 @@ fn steps_output(
     }
 }
 
-/// Lists the steps of a job and goes through them, or refuses the job.
-fn job_output(alloc: Global, job: &Job, words: &RunWords) -> Result<Output, AllocError>
-    requires job { IsJob job.now }
-    requires size { 1 ≤ words.now.block }
-    ensures { IfOk result (λ output. DueRun words.now job.now output.status output.text.items) }
+/// A job with the steps that it is run by, or what is printed of an input that is refused.
+#[derive(Drop)]
+pub enum Planned {
+    Run { job: Job, steps: StepList },
+    Refused(Output),
+}
+
+/// Reads the job that the bytes spell, and lists its steps.
+fn plan_run(alloc: Global, bytes: &[u8], words: &RunWords) -> Result<Planned, AllocError>
+    requires short { length bytes.now ≤ 67108864 }
+    requires range { AreRunWords words.now }
+    ensures { IfOk result (IsPlanned words.now bytes.now) }
 {
-    match list_steps(alloc, job, words.block, &words.choice)? {
-        Listing::Steps(steps) => Ok(steps_output(alloc, job, words, &steps)?),
-        Listing::Refused(output) => Ok(output),
+    let job = match read_job(alloc, bytes, Stop::Nothing) {
+        Ok((job, _)) => job,
+        Err(JobFault::Memory) => return Err(AllocError),
+        Err(fault) => return Ok(Planned::Refused(fault_output(alloc, fault)?)),
+    };
+    match list_steps(alloc, &job, words.block, &words.choice)? {
+        Listing::Steps(steps) => Ok(Planned::Run { job, steps }),
+        Listing::Refused(output) => Ok(Planned::Refused(output)),
     }
 }
 
-/// A run of the job that the bytes spell.
+/// A run, by one worker, of the job that the bytes spell.
 pub fn run_output(alloc: Global, bytes: &[u8], words: &RunWords) -> Result<Output, AllocError>
     requires short { length bytes.now ≤ 67108864 }
     requires range { AreRunWords words.now }
+    requires one { words.now.workers ≡ 1 }
     ensures { IfOk result (λ output.
         DueShort (DueRun words.now) bytes.now output.status output.text.items) }
 {
-    match read_job(alloc, bytes, Stop::Nothing) {
-        Ok((job, _)) => Ok(job_output(alloc, &job, words)?),
-        Err(JobFault::Memory) => Err(AllocError),
-        Err(fault) => Ok(fault_output(alloc, fault)?),
+    match plan_run(alloc, bytes, words)? {
+        Planned::Run { job, steps } => {
+            let finished = go_alone(alloc, &job, words.block, &steps)?;
+            Ok(finished_output(alloc, &job, words, &steps, finished)?)
+        }
+        Planned::Refused(output) => Ok(output),
+    }
+}
+
+/// A run, by several workers, of the job that the bytes spell.
+pub fn run_many_output<R: Threads + Wait + Sync, G: Gate>(
+    rt: &R,
+    alloc: Global,
+    bytes: &[u8],
+    words: &RunWords,
+    gate: &G,
+) -> Result<Output, AllocError>
+    requires short { length bytes.now ≤ 67108864 }
+    requires range { AreRunWords words.now }
+    requires many { 2 ≤ words.now.workers }
+    ensures { IfOk result (λ output.
+        DueShort (DueRun words.now) bytes.now output.status output.text.items) }
+{
+    match plan_run(alloc, bytes, words)? {
+        Planned::Run { job, steps } => {
+            let plan = Plan {
+                job: &job,
+                b: words.block,
+                steps: &steps,
+                workers: words.workers,
+            };
+            let finished = go_together(rt, alloc, &plan, gate)?;
+            Ok(finished_output(alloc, &job, words, &steps, finished)?)
+        }
+        Planned::Refused(output) => Ok(output),
     }
 }
 
@@ -147,6 +202,7 @@ pub fn run_one_cmd<S: Source, K: Sink>(
     sink: &mut K,
 ) -> u8
     requires asks { AsksRun command.now }
+    requires one { workers_of command.now ≡ 1 }
     requires range { IsInRange command.now }
     ensures answers { Answers (DueCommand command.now)
         (state_of S.left S.faults source.old) (state_of S.left S.faults source.new)
@@ -155,4 +211,28 @@ pub fn run_one_cmd<S: Source, K: Sink>(
     ensures untouched { (result ≡ 1) ⊎ (result ≡ 5) → sink.new ≡ sink.old }
 {
     answer_command(alloc, command, source, sink)
+}
+
+/// Runs the job of the input with two to sixteen workers on threads: it does what `run_one_cmd` does, with each block
+/// task once the tasks before it that it conflicts with have ended. What it answers and writes is what one worker
+/// does, but for a trace from its line `schedule` on, where the order stands in which the tasks began and ended. The gate stands
+/// round the work of each task that isn't skipped. That it returns isn't promised.
+pub fn run_many_cmd<R: Threads + Wait + Sync, S: Source, K: Sink, G: Gate>(
+    rt: &R,
+    alloc: Global,
+    command: &Command,
+    source: &mut S,
+    sink: &mut K,
+    gate: &G,
+) -> u8
+    requires asks { AsksRun command.now }
+    requires many { 2 ≤ workers_of command.now }
+    requires range { IsInRange command.now }
+    ensures answers { Answers (DueCommand command.now)
+        (state_of S.left S.faults source.old) (state_of S.left S.faults source.new)
+        (state_of K.held K.faults sink.old) (state_of K.held K.faults sink.new) result }
+    ensures ended { IsDueStatus result → result ≢ 3 → IsAtEnd (S.left source.new) }
+    ensures untouched { (result ≡ 1) ⊎ (result ≡ 5) → sink.new ≡ sink.old }
+{
+    answer_many(rt, alloc, command, source, sink, gate)
 }

@@ -3,31 +3,35 @@
 ghost use Rattle.std.specs.Prelude.{◌≡◌, ◌≢◌, ◌≤◌, ◌⊎◌, length, IfOk};
 ghost use Rattle.equation.specs.Jobs.{IsJob};
 ghost use Rattle.equation.specs.Meanings.{Means};
-ghost use Rattle.step_replays.specs.Fits.{FitsJob};
 ghost use Rattle.issue_list.specs.CanonicalSteps.{most_steps};
+ghost use Rattle.task_values.specs.Outcomes.{IsMeaning};
 ghost use Rattle.issue_list.specs.declared.choice.Choice.TheVariants.{First};
 ghost use Rattle.variant_report.specs.SummaryTexts.{summary_text};
-ghost use Rattle.command_words.specs.Words.{AreSelfWords, AsksSelfRun, IsInRange};
+ghost use Rattle.command_words.specs.Words.{AreSelfWords, AreSizes, AsksSelfRun, IsInRange, workers_of};
 ghost use Rattle.flame_top.specs.Answers.{Answers, state_of};
 ghost use Rattle.flame_top.specs.Due.{DueCommand};
 ghost use Rattle.flame_top.specs.Meaning.{DueMeaning, DueResult};
 ghost use Rattle.flame_top.specs.SelfRun.{DueSelfRun, DueSummary, self_text};
 ghost use Rattle.flame_top.specs.Steps.{steps_by};
 
-use crate::answering::answer_alone;
+use crate::answering::{answer_alone, answer_many_alone};
 use crate::make::modulus_of;
 use crate::meaning::bad_pivot_output;
 use crate::output::Output;
 use crate::steps::{Listing, list_steps};
+use crate::workers::{go_alone, go_together};
 use command_words::Command;
+use dispatcher::{Finished, Plan};
 use equation::{Job, Place};
 use issue_list::Choice;
 use job_generator::generate;
 use matrix_core::MatrixList;
-use outside_io::{Sink, Source};
+use outside_io::{Gate, Sink, Source};
 use std::alloc::{AllocError, Global};
+use std::sync::Wait;
+use std::thread::Threads;
 use step_replays::StepList;
-use task_values::{Outcome, replay};
+use task_values::Outcome;
 use variant_report::{SelfWords, write_summary};
 
 /// Prints a summary of the matrices that a job means.
@@ -48,22 +52,22 @@ fn summary_output(
     Ok(Output { status: 0, text })
 }
 
-/// Goes through the steps of a job, and prints a summary of what they come to.
-fn steps_output(
+/// Prints a summary of what the steps of a job came to.
+fn finished_output(
     alloc: Global,
     job: &Job,
     words: SelfWords,
     steps: &StepList,
+    outcome: Outcome,
 ) -> Result<Output, AllocError>
     requires job { IsJob job.now }
-    requires size { 1 ≤ words.block }
-    requires fit { FitsJob job.now words.block steps.now }
     requires steps { steps.now ≡ steps_by job.now words.block First }
     requires few { length steps.now ≤ most_steps }
+    requires meaning { IsMeaning job.now outcome }
     ensures { IfOk result (λ output.
         DueMeaning job.now (self_text words job.now) output.status output.text.items) }
 {
-    match replay(alloc, job, words.block, steps)? {
+    match outcome {
         Outcome::Done(after) => {
             let count = steps.len() as u32;
             Ok(summary_output(alloc, job, words, count, &after)?)
@@ -79,25 +83,71 @@ fn steps_output(
     }
 }
 
-/// Lists the steps of a job by first variants and goes through them, or refuses the job.
+/// Lists the steps of a job by first variants and has one worker do them, or refuses the job.
 fn job_output(alloc: Global, job: &Job, words: SelfWords) -> Result<Output, AllocError>
     requires job { IsJob job.now }
     requires size { 1 ≤ words.block }
     ensures { IfOk result (λ output. DueSummary words job.now output.status output.text.items) }
 {
     match list_steps(alloc, job, words.block, &Choice::First)? {
-        Listing::Steps(steps) => Ok(steps_output(alloc, job, words, &steps)?),
+        Listing::Steps(steps) => {
+            let Finished { outcome, .. } = go_alone(alloc, job, words.block, &steps)?;
+            Ok(finished_output(alloc, job, words, &steps, outcome)?)
+        }
         Listing::Refused(output) => Ok(output),
     }
 }
 
-/// A run of the generated job.
+/// Lists the steps of a job by first variants and has several workers do them, or refuses the job.
+fn job_many_output<R: Threads + Wait + Sync, G: Gate>(
+    rt: &R,
+    alloc: Global,
+    job: &Job,
+    words: SelfWords,
+    gate: &G,
+) -> Result<Output, AllocError>
+    requires job { IsJob job.now }
+    requires sizes { AreSizes words.block words.workers }
+    requires many { 2 ≤ words.workers }
+    ensures { IfOk result (λ output. DueSummary words job.now output.status output.text.items) }
+{
+    match list_steps(alloc, job, words.block, &Choice::First)? {
+        Listing::Steps(steps) => {
+            let plan = Plan {
+                job,
+                b: words.block,
+                steps: &steps,
+                workers: words.workers,
+            };
+            let Finished { outcome, .. } = go_together(rt, alloc, &plan, gate)?;
+            Ok(finished_output(alloc, job, words, &steps, outcome)?)
+        }
+        Listing::Refused(output) => Ok(output),
+    }
+}
+
+/// A run of the generated job by one worker.
 pub fn selfrun_output(alloc: Global, words: SelfWords) -> Result<Output, AllocError>
     requires range { AreSelfWords words }
     ensures { IfOk result (λ output. DueSelfRun words output.status output.text.items) }
 {
     let job = generate(alloc, words.n, modulus_of(words.m), words.seed)?;
     Ok(job_output(alloc, &job, words)?)
+}
+
+/// A run of the generated job by several workers.
+pub fn selfrun_many_output<R: Threads + Wait + Sync, G: Gate>(
+    rt: &R,
+    alloc: Global,
+    words: SelfWords,
+    gate: &G,
+) -> Result<Output, AllocError>
+    requires range { AreSelfWords words }
+    requires many { 2 ≤ words.workers }
+    ensures { IfOk result (λ output. DueSelfRun words output.status output.text.items) }
+{
+    let job = generate(alloc, words.n, modulus_of(words.m), words.seed)?;
+    Ok(job_many_output(rt, alloc, &job, words, gate)?)
 }
 
 /// Runs the generated job that the command asks for with one worker, each statement by the first variant of its operation, and
@@ -116,6 +166,7 @@ pub fn selfrun_one_cmd<S: Source, K: Sink>(
     sink: &mut K,
 ) -> u8
     requires asks { AsksSelfRun command.now }
+    requires one { workers_of command.now ≡ 1 }
     requires range { IsInRange command.now }
     ensures answers { Answers (DueCommand command.now)
         (state_of S.left S.faults source.old) (state_of S.left S.faults source.new)
@@ -124,4 +175,26 @@ pub fn selfrun_one_cmd<S: Source, K: Sink>(
     ensures untouched { result ≡ 5 → sink.new ≡ sink.old }
 {
     answer_alone(alloc, command, source, sink)
+}
+
+/// Runs the generated job with two to sixteen workers on threads, and writes the summary that one worker gets but for
+/// the number of workers in its first line. The gate stands round the work of each task. That it returns isn't promised.
+pub fn selfrun_many_cmd<R: Threads + Wait + Sync, S: Source, K: Sink, G: Gate>(
+    rt: &R,
+    alloc: Global,
+    command: &Command,
+    source: &mut S,
+    sink: &mut K,
+    gate: &G,
+) -> u8
+    requires asks { AsksSelfRun command.now }
+    requires many { 2 ≤ workers_of command.now }
+    requires range { IsInRange command.now }
+    ensures answers { Answers (DueCommand command.now)
+        (state_of S.left S.faults source.old) (state_of S.left S.faults source.new)
+        (state_of K.held K.faults sink.old) (state_of K.held K.faults sink.new) result }
+    ensures unread { (source.new ≡ source.old) × (result ≢ 1) }
+    ensures untouched { result ≡ 5 → sink.new ≡ sink.old }
+{
+    answer_many_alone(rt, alloc, command, source, sink, gate)
 }

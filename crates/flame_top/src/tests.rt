@@ -1,16 +1,18 @@
 use super::*;
 use outside_io::{MemSink, MemSource, OpenGate};
 use std::alloc::{AllocError, Global};
+use std::sync::Wait;
 use std::test::Fail;
+use std::thread::Threads;
 
 const RUN: &[&str] = &["run", "--block", "1", "--workers", "1"];
 
 const HEAD: &str = "flame 1\nmodulus 7\n";
 
-const MUL: &str =
+pub const MUL: &str =
     "operation mul\ndims m n k\nwork W general m n\nknown A general m k\nknown B general k n\nequation X = W + A * B\nend\n";
 
-const LU: &str = "operation lu\ndims n\nwork W general n n\nequation lu X = W\nend\n";
+pub const LU: &str = "operation lu\ndims n\nwork W general n n\nequation lu X = W\nend\n";
 
 const SMALL: &str = "matrix W 1 1\n1\nend\nmatrix A 1 1\n2\nend\nmatrix B 1 1\n3\nend\n";
 
@@ -18,12 +20,12 @@ const TAIL: &str = "do mul W A B\nprint W\n";
 
 /// What a run answers.
 #[derive(Drop)]
-struct Answer {
-    status: u8,
-    text: Vec<u8>,
+pub struct Answer {
+    pub status: u8,
+    pub text: Vec<u8>,
 }
 
-fn words_of(alloc: Global, words: &[&str]) -> Result<Vec<String>, AllocError> {
+pub fn words_of(alloc: Global, words: &[&str]) -> Result<Vec<String>, AllocError> {
     let mut all = Vec::new(alloc);
     for word in words {
         all.push(String::from_str(alloc, word)?)?;
@@ -31,7 +33,7 @@ fn words_of(alloc: Global, words: &[&str]) -> Result<Vec<String>, AllocError> {
     Ok(all)
 }
 
-fn joined(alloc: Global, parts: &[&str]) -> Result<Vec<u8>, AllocError> {
+pub fn joined(alloc: Global, parts: &[&str]) -> Result<Vec<u8>, AllocError> {
     let mut all = Vec::new(alloc);
     for part in parts {
         all.extend_from_slice(part.as_bytes())?;
@@ -40,7 +42,8 @@ fn joined(alloc: Global, parts: &[&str]) -> Result<Vec<u8>, AllocError> {
 }
 
 /// The answer from a source that gives 16 bytes a call to a sink that takes 8, with planned failures.
-fn answered(
+fn answered<R: Threads + Wait + Sync>(
+    rt: &R,
     alloc: Global,
     words: &[&str],
     input: Vec<u8>,
@@ -50,7 +53,7 @@ fn answered(
     let words = words_of(alloc, words)?;
     let mut source = MemSource::new(input, 16, Vec::from_slice(alloc, source_fails)?);
     let mut sink = MemSink::new(alloc, 6000, 8, Vec::from_slice(alloc, sink_fails)?)?;
-    let status = top(&(), alloc, &words, &mut source, &mut sink, &OpenGate);
+    let status = top(rt, alloc, &words, &mut source, &mut sink, &OpenGate);
     let text = Vec::from_slice(alloc, sink.bytes())?;
     Ok(Answer { status, text })
 }
@@ -98,11 +101,18 @@ fn commands_are_answered(rt: HostRuntime) -> Result<(), Fail> {
         (SELFRUN, &[], 0, SUMMARY),
     ];
     for (i, (words, parts, status, text)) in cases.iter().enumerate() {
-        let given = answered(alloc, words, joined(alloc, parts)?, &[], &[])?;
+        let given = answered(&rt, alloc, words, joined(alloc, parts)?, &[], &[])?;
         assert_eq!(rt; given.status, *status, "case {i}");
         assert_eq!(rt; given.text.as_slice(), text.as_bytes(), "case {i}");
     }
-    let given = answered(alloc, &["make", "0", "2", "0"], Vec::new(alloc), &[1], &[])?;
+    let given = answered(
+        &rt,
+        alloc,
+        &["make", "0", "2", "0"],
+        Vec::new(alloc),
+        &[1],
+        &[],
+    )?;
     assert_eq!(rt; given.status, 0);
     assert!(rt;
         given
@@ -116,11 +126,11 @@ fn commands_are_answered(rt: HostRuntime) -> Result<(), Fail> {
 fn long_inputs_are_refused(rt: HostRuntime) -> Result<(), Fail> {
     let alloc = rt.alloc();
     let blanks = vec![in alloc; b' '; 67_108_865]?;
-    let given = answered(alloc, RUN, blanks, &[], &[])?;
+    let given = answered(&rt, alloc, RUN, blanks, &[], &[])?;
     assert_eq!(rt; given.status, 3);
     assert_eq!(rt; given.text.as_slice(), b"refused TooLong\n".as_slice());
     let blanks = vec![in alloc; b' '; 67_108_864]?;
-    let given = answered(alloc, RUN, blanks, &[], &[])?;
+    let given = answered(&rt, alloc, RUN, blanks, &[], &[])?;
     assert_eq!(rt; given.status, 3);
     assert_eq!(rt;
         given.text.as_slice(),
@@ -139,7 +149,7 @@ fn faults_and_bad_words_are_told(rt: HostRuntime) -> Result<(), Fail> {
         (&["derive", "extra"], 2),
     ];
     for (i, (words, status)) in words.iter().enumerate() {
-        let given = answered(alloc, words, Vec::new(alloc), &[1], &[])?;
+        let given = answered(&rt, alloc, words, Vec::new(alloc), &[1], &[])?;
         let text: &[u8] = if *status == 2 { b"bad words\n" } else { b"" };
         assert_eq!(rt; given.status, *status, "case {i}");
         assert_eq!(rt; given.text.as_slice(), text, "case {i}");
@@ -152,7 +162,7 @@ fn faults_and_bad_words_are_told(rt: HostRuntime) -> Result<(), Fail> {
     ];
     for (i, (source_fails, sink_fails, status, text)) in faults.iter().enumerate() {
         let input = joined(alloc, &[HEAD, MUL, SMALL, TAIL])?;
-        let given = answered(alloc, RUN, input, source_fails, sink_fails)?;
+        let given = answered(&rt, alloc, RUN, input, source_fails, sink_fails)?;
         assert_eq!(rt; given.status, *status, "case {i}");
         assert_eq!(rt; given.text.as_slice(), text.as_bytes(), "case {i}");
     }
