@@ -19,6 +19,7 @@ class Built:
     variants: `run` takes `--variants` and `--trace`, with `refused VariantCount ..` and `refused NoVariant ..`; else words
         that have them are bad.
     generator: the commands `make` and `selfrun`; else their words are bad.
+    threads: runs by 2 to 16 workers; else their words are bad.
     """
 
     derive_every_form: bool = False
@@ -27,10 +28,11 @@ class Built:
     block_sizes: bool = False
     variants: bool = False
     generator: bool = False
+    threads: bool = False
 
     def has(self, command):
         """Whether the program has the command that these words spell; else the words are bad."""
-        if command.parts.get("workers", 1) != 1:
+        if command.parts.get("workers", 1) != 1 and not self.threads:
             return False
         if command.name == "run":
             return self.variants or not {"variants", "--trace"} & set(command.parts)
@@ -46,7 +48,8 @@ class Built:
 FLAGS = tuple(field.name for field in fields(Built))
 
 # What the built program has today.
-BUILT = Built(derive_every_form=True, run_every_form=True, verify=True, block_sizes=True, variants=True, generator=True)
+BUILT = Built(derive_every_form=True, run_every_form=True, verify=True, block_sizes=True, variants=True, generator=True,
+              threads=True)
 
 # Everything that the reference can answer, whether the program has it or not.
 WHOLE = Built(**{flag: True for flag in FLAGS})

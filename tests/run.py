@@ -5,6 +5,7 @@
 
 import argparse
 import os
+import resource
 import subprocess
 import sys
 import time
@@ -34,8 +35,11 @@ from generators.streams import stream_cases  # noqa: E402
 from generators.variants import turned, variant_cases  # noqa: E402
 from generators.words import words_under  # noqa: E402
 from reference.due import due  # noqa: E402
+from schedules import agrees, by_workers  # noqa: E402
 
 LEAST = 500
+# By how many workers cases are run again, in turn.
+WORKERS = (2, 4, 16, 3)
 SECONDS = 60
 
 
@@ -76,7 +80,7 @@ def in_pieces(command, data):
 def compared(program, case, status, output):
     """None where the program answers what is due, else a line about the difference; a failed case is written."""
     found_status, found = answer(program, case)
-    if (found_status, found) == (status, output):
+    if found_status == status and agrees(case.words, output, found):
         return None
     folder = HERE / "failed" / "".join(c if c.isalnum() or c in "-_" else "_" for c in case.name)
     save(folder, case, status, output)
@@ -122,6 +126,60 @@ def kept_by_variants(program, built, folder, turn):
     if found_status != status or not found.startswith(output):
         return f"FAILED {other.name}: the reference answers {found_status} {beginning(found)}"
     return compared(program, other, found_status, found)
+
+
+def compared_by_workers(program, case, status, output, turn):
+    """Runs a case by several workers, by which nothing changes but the order of steps; None where it is no run."""
+    workers = WORKERS[turn % len(WORKERS)]
+    changed = by_workers(case.words, output, workers)
+    if changed is None or case.streams:
+        return None
+    words, output = changed
+    return compared(program, Case(f"{case.name}-workers-{workers}", words, case.data), status, output)
+
+
+def kept_by_workers(program, folder, turn):
+    """Runs a kept case by several workers."""
+    case, status, output = load(folder)
+    return compared_by_workers(program, case, status, output, turn)
+
+
+def generated_by_workers(program, built, seed, index):
+    """Runs a generated case by several workers."""
+    try:
+        case = generated_case(seed, index, built)
+        return compared_by_workers(program, case, *due(case.words, case.data, built), index)
+    except Exception as wrong:
+        return f"FAILED {seed}-{index} by workers: {type(wrong).__name__}: {wrong}"
+
+
+def fixed_by_workers(program, built, number):
+    """Runs a fixed case by several workers."""
+    case, known = fixed_cases(built)[number]
+    try:
+        case = made_case(case)
+        known = known() if callable(known) else known
+        return compared_by_workers(program, case, *(known or due(case.words, case.data, built)), number)
+    except Exception as wrong:
+        return f"FAILED {getattr(case, 'name', case)} by workers: {type(wrong).__name__}: {wrong}"
+
+
+def is_run(words):
+    """Whether these are good words of a run."""
+    return by_workers(words, b"", 2) is not None
+
+
+def starved(program, folder, turn, megabytes):
+    """Runs a kept case by several workers with so much memory at most: the answer is the one that is due, or want of memory
+    with nothing written."""
+    case, status, output = load(folder)
+    words, output = by_workers(case.words, output, WORKERS[turn % len(WORKERS)])
+    limit = megabytes * 1024 * 1024
+    done = subprocess.run([program, *words], input=case.data, stdout=subprocess.PIPE, stderr=subprocess.DEVNULL, timeout=SECONDS,
+                          preexec_fn=lambda: resource.setrlimit(resource.RLIMIT_AS, (limit, limit)))
+    if (done.returncode, done.stdout) == (5, b"") or (done.returncode == status and agrees(words, output, done.stdout)):
+        return None
+    return f"FAILED {case.name} in {megabytes} MB: due {status} or 5, found {done.returncode} {beginning(done.stdout)}"
 
 
 def is_outcome(folder):
@@ -184,6 +242,13 @@ def all_cases(arguments, built):
     others = [(kept_under, folder, block) for folder in ready for block in other_blocks(folder)]
     if built.variants:
         others += [(kept_by_variants, built, folder, turn) for folder in ready if is_outcome(folder) for turn in (0, 1)]
+    if built.threads:
+        runs = [folder for folder in ready if is_run(load(folder)[0].words)]
+        others += [(kept_by_workers, folder, turn) for folder in runs for turn in range(len(WORKERS))]
+        others += [(generated_by_workers, built, arguments.seed, index) for index in range(arguments.count)
+                   if is_run(generated_case(arguments.seed, index, built).words)]
+        others += [(fixed_by_workers, built, number) for number, (case, _) in enumerate(fixed_cases(built))
+                   if number % 3 == 0 and is_run(made_case(case).words)]
     return same + drawn + [(kept, folder) for folder in ready] + others
 
 
