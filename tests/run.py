@@ -5,7 +5,6 @@
 
 import argparse
 import os
-import resource
 import subprocess
 import sys
 import time
@@ -167,19 +166,6 @@ def fixed_by_workers(program, built, number):
 def is_run(words):
     """Whether these are good words of a run."""
     return by_workers(words, b"", 2) is not None
-
-
-def starved(program, folder, turn, megabytes):
-    """Runs a kept case by several workers with so much memory at most: the answer is the one that is due, or want of memory
-    with nothing written."""
-    case, status, output = load(folder)
-    words, output = by_workers(case.words, output, WORKERS[turn % len(WORKERS)])
-    limit = megabytes * 1024 * 1024
-    done = subprocess.run([program, *words], input=case.data, stdout=subprocess.PIPE, stderr=subprocess.DEVNULL, timeout=SECONDS,
-                          preexec_fn=lambda: resource.setrlimit(resource.RLIMIT_AS, (limit, limit)))
-    if (done.returncode, done.stdout) == (5, b"") or (done.returncode == status and agrees(words, output, done.stdout)):
-        return None
-    return f"FAILED {case.name} in {megabytes} MB: due {status} or 5, found {done.returncode} {beginning(done.stdout)}"
 
 
 def is_outcome(folder):
