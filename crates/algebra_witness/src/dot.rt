@@ -9,7 +9,8 @@ pub fn dot(modulus: Modulus, a: &[u64], b: &[u64]) -> u64
     requires lengths { length a.now ≡ length b.now }
     requires first { All (λ x. x < modulus) a.now }
     requires second { All (λ x. x < modulus) b.now }
-    ensures { result ≡ sum_below (λ k. slice_index a.now k * slice_index b.now k) (length a.now) % modulus }
+    ensures { result ≡ sum_below (λ k. slice_index a.now k * slice_index b.now k)
+        (length a.now) % modulus }
 {
     let mut sum = 0;
     for (x, y) in a.iter().zip(b) {
@@ -37,7 +38,8 @@ pub fn dot_delayed(modulus: Modulus, a: &[u64], b: &[u64]) -> u64
     requires lengths { length a.now ≡ length b.now }
     requires first { All (λ x. x < modulus) a.now }
     requires second { All (λ x. x < modulus) b.now }
-    ensures { result ≡ sum_below (λ k. slice_index a.now k * slice_index b.now k) (length a.now) % modulus }
+    ensures { result ≡ sum_below (λ k. slice_index a.now k * slice_index b.now k)
+        (length a.now) % modulus }
 {
     let greatest = modulus.value() - 1;
     let room = u64::MAX - greatest * greatest;

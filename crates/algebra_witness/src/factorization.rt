@@ -7,7 +7,7 @@ ghost use Rattle.structure_rules.specs.Structures.{view};
 ghost use Rattle.matrix_algebra.specs.Factors.{IsLu, IsLuBadPivot};
 ghost use Rattle.algebra_witness.specs.Entries.{entries};
 
-use crate::substitution::row_times_column;
+use crate::substitution::{Products, row_times_column};
 use field_word::Modulus;
 
 /// What an entry in row i and column j is multiplied by: the inverse of its column's pivot below the diagonal, and 1
@@ -32,14 +32,22 @@ pub fn factor_lu(
     requires pivots { length inverses.old ≡ n }
     requires entries { All (λ x. x < modulus) w.old }
     requires room { All (λ x. x < modulus) inverses.old }
-    ensures factors { OnOk result (IsLu modulus n (entries n n w.old) (view UnitLower (entries n n w.new)) (view Upper (entries n n w.new))) }
+    ensures factors { OnOk result (IsLu modulus n (entries n n w.old)
+        (view UnitLower (entries n n w.new)) (view Upper (entries n n w.new))) }
     ensures units { OnOk result ((i : ℕ) → i < n → IsUnit modulus (entries n n w.new i i)) }
     ensures bad_pivot { (k : ℕ) → (result ≡ Err k) ↔ IsLuBadPivot modulus n (entries n n w.old) k }
 {
     let m = modulus.value();
     for i in 0..n {
         for j in 0..n {
-            let others = row_times_column(modulus, w, w, n, n, i, j, i.min(j));
+            let products = Products {
+                inner: n,
+                cols: n,
+                row: i,
+                col: j,
+                count: i.min(j),
+            };
+            let others = row_times_column(modulus, w, w, products);
             let rest = (w[i * n + j] + m - others) % m;
             let scale = scale_of(inverses, i, j);
             w[i * n + j] = modulus.mul(rest, scale);
