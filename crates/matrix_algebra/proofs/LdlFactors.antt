@@ -1,16 +1,15 @@
 -- The factors L * D * L' of a matrix are unique, and so is the first bad pivot. Cited by the kernel that factors in place and by the
 -- one solution of a statement.
-use Rattle.std.proofs.Common.{◌≡◌, ℕ, zero, suc, ◌+◌, ◌<◌, ◌≤◌, inl, inr, refl, sym, ◌∙◌, arith}
-use Rattle.std.proofs.lemmas.Bool.{cases_order}
+use Rattle.std.proofs.Common.{◌≡◌, ℕ, ◌+◌, ◌<◌, ◌≤◌, refl, sym, ◌∙◌, arith}
 use Rattle.residue_sums.specs.Residues.{Cong, IsUnit}
 use Rattle.residue_sums.specs.Tables.{Table, product, transpose}
 use Rattle.residue_sums.proofs.Congruence.{Cong-sym, Cong-trans, Cong-from_same, IsUnit-Cong}
-use Rattle.residue_sums.proofs.Inverses.{IsUnit-or_not}
 use Rattle.structure_rules.specs.declared.Structure.TheVariants.{Lower, UnitLower, Diagonal}
 use Rattle.structure_rules.specs.Structures.{view, IsEntry}
 use Rattle.structure_rules.proofs.Views.{IsEntry-or_not}
 use Rattle.matrix_algebra.specs.Triangles.{IsUnitLower, IsDiagonal}
 use Rattle.matrix_algebra.specs.Factors.{IsLdl, IsLdlBadPivot}
+use Rattle.matrix_algebra.proofs.BadPivots.{BadFactors, all_units, none_bad, one_bad}
 use Rattle.matrix_algebra.proofs.Substitution.{SolvesBelow, Solution, solution-unique, solution}
 use Rattle.matrix_algebra.proofs.Places.{rowwise}
 use Rattle.matrix_algebra.proofs.Packed.{pivot_of, pivot_of-unit, packed, packed-lower, packed-upper, view-diagonal_here, IsUnitLower-view, IsDiagonal-view, row_first}
@@ -57,53 +56,40 @@ IsLdl-leading m n k r l d le factors = record {
     diagonal : IsDiagonal k d
     diagonal = record { apart = λ i j row col h. factors.diagonal.apart i j (omega arith) (omega arith) h }
 
--- a bad pivot is a unit in no other factors that reach it
-ldl_bad_pivot_elsewhere : (m n : ℕ) → 2 ≤ m → (r l d : Table) (k : ℕ) → IsLdlBadPivot m n r k → IsLdl m (k + 1) r l d → ¬ (IsUnit m (d k k))
-ldl_bad_pivot_elsewhere m n two r l d k bad factors unit =
-    bad.bad (IsUnit-Cong m (d k k) (bad.d k k)
-    (Cong-sym (ldl_diagonal_unique m (k + 1) two r bad.l bad.d l d bad.factors factors (λ i before. bad.units i (omega arith)) k (omega arith))) unit)
+-- the factors of the leading blocks, as the lemmas of bad pivots take them
+abbrev ldl_of : ℕ → Table → ℕ → Table → Table → Type 0
+ldl_of m r n l d = IsLdl m n r l d
+
+module _ (m : ℕ) (two : 2 ≤ m) (r : Table) where
+  agree : (n : ℕ) (l d l' d' : Table) → IsLdl m n r l d → IsLdl m n r l' d' → ((i : ℕ) → i + 1 < n → IsUnit m (d i i)) → (i : ℕ) → i < n → Cong m (d i i) (d' i i)
+  agree n l d l' d' factors factors' units i row = ldl_diagonal_unique m n two r l d l' d' factors factors' units i row
+
+  leading : (n k : ℕ) (l d : Table) → k ≤ n → IsLdl m n r l d → IsLdl m k r l d
+  leading n k l d le factors = IsLdl-leading m n k r l d le factors
+
+-- a bad pivot of a matrix, as these lemmas take it, and back
+bad_of : (m n : ℕ) (r : Table) (k : ℕ) → IsLdlBadPivot m n r k → BadFactors m (ldl_of m r) k
+bad_of m n r k bad = record { l = bad.l; d = bad.d; factors = bad.factors; units = bad.units; bad = bad.bad }
+
+bad_from : (m n : ℕ) (r : Table) (k : ℕ) → k < n → BadFactors m (ldl_of m r) k → IsLdlBadPivot m n r k
+bad_from m n r k within bad = record { within = within; l = bad.l; d = bad.d; factors = bad.factors; units = bad.units; bad = bad.bad }
 
 -- a matrix has at most one bad pivot
 pub ldl_bad_pivot_unique : (m n : ℕ) → 2 ≤ m → (r : Table) (k k' : ℕ) → IsLdlBadPivot m n r k → IsLdlBadPivot m n r k' → k ≡ k'
-ldl_bad_pivot_unique m n two r k k' bad bad' = elim (cases_order k k') [
-  | inl same ↦ same
-  | inr other ↦ elim other [
-    | inl less ↦ absurd (earlier k k' bad bad' less)
-    | inr more ↦ absurd (earlier k' k bad' bad more)
-  ]
-]
-  where
-    earlier : (a b : ℕ) → IsLdlBadPivot m n r a → IsLdlBadPivot m n r b → a < b → ⊥
-    earlier a b first second h =
-        ldl_bad_pivot_elsewhere m n two r second.l second.d a first (IsLdl-leading m (b + 1) (a + 1) r second.l second.d (omega arith) second.factors) (second.units a h)
+ldl_bad_pivot_unique m n two r k k' bad bad' = one_bad m two (ldl_of m r) (leading m two r) (agree m two r) k k' (bad_of m n r k bad) (bad_of m n r k' bad')
 
 -- a bad pivot of one leading block is one of each other leading block that reaches it
 pub IsLdlBadPivot-within : (m n n' k : ℕ) (r : Table) → k < n' → IsLdlBadPivot m n r k → IsLdlBadPivot m n' r k
-IsLdlBadPivot-within m n n' k r within bad = record { within = within; l = bad.l; d = bad.d; factors = bad.factors; units = bad.units; bad = bad.bad }
+IsLdlBadPivot-within m n n' k r within bad = bad_from m n' r k within (bad_of m n r k bad)
 
 -- a matrix with factors whose pivots are units has no bad pivot
 pub no_ldl_bad_pivot : (m n : ℕ) → 2 ≤ m → (r l d : Table) → IsLdl m n r l d → ((i : ℕ) → i < n → IsUnit m (d i i)) → (k : ℕ) → ¬ (IsLdlBadPivot m n r k)
-no_ldl_bad_pivot m n two r l d factors units k bad =
-    let within : k < n = bad.within in
-    ldl_bad_pivot_elsewhere m n two r l d k bad (IsLdl-leading m n (k + 1) r l d (omega arith) factors) (units k within)
+no_ldl_bad_pivot m n two r l d factors units k bad = none_bad m two (ldl_of m r) (leading m two r) (agree m two r) n l d factors units k bad.within (bad_of m n r k bad)
 
 -- where a matrix has no bad pivot, the pivots of its factors are units
 pub ldl_units : (m n : ℕ) → 2 ≤ m → (r l d : Table) → IsLdl m n r l d → ((k : ℕ) → ¬ (IsLdlBadPivot m n r k)) → (i : ℕ) → i < n → IsUnit m (d i i)
-ldl_units m n two r l d factors none i row = below n i row row
-  where
-    below : (q i : ℕ) → i < q → i < n → IsUnit m (d i i)
-    below zero i h row = absurd (omega arith)
-    below (suc q) i h row = elim (IsUnit-or_not m (d i i) two) [
-      | inl unit ↦ unit
-      | inr bad ↦ absurd (none i (record {
-        within = row;
-        l = l;
-        d = d;
-        factors = IsLdl-leading m n (i + 1) r l d (omega arith) factors;
-        units = λ j before. below q j (omega arith) (omega arith);
-        bad = bad;
-      }))
-    ]
+ldl_units m n two r l d factors none i row =
+    all_units m two (ldl_of m r) (leading m two r) (agree m two r) n l d factors (λ k within bad. none k (bad_from m n r k within bad)) i row
 
 -- a matrix with no bad pivot before the last place has factors, whatever its last pivot is
 pub ldl_solution : (m n : ℕ) → 2 ≤ m → (r other : Table) → ((k : ℕ) → k + 1 < n → ¬ (IsLdlBadPivot m n r k))

@@ -1,3 +1,4 @@
+mod BadPivots
 pub mod InPlace
 pub mod Inverse
 pub mod Ldl

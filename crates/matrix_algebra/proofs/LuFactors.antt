@@ -1,16 +1,15 @@
 -- The factors L * U of a matrix are unique, and so is the first bad pivot. Cited by the kernel that factors in place and by the one
 -- solution of a statement.
-use Rattle.std.proofs.Common.{◌≡◌, ℕ, zero, suc, ◌+◌, ◌<◌, ◌≤◌, inl, inr, sym, ◌∙◌, arith}
-use Rattle.std.proofs.lemmas.Bool.{cases_order}
+use Rattle.std.proofs.Common.{◌≡◌, ℕ, ◌+◌, ◌<◌, ◌≤◌, sym, ◌∙◌, arith}
 use Rattle.residue_sums.specs.Residues.{Cong, IsUnit}
 use Rattle.residue_sums.specs.Tables.{Table, product}
 use Rattle.residue_sums.proofs.Congruence.{Cong-sym, Cong-trans, Cong-from_same, IsUnit-Cong}
-use Rattle.residue_sums.proofs.Inverses.{IsUnit-or_not}
 use Rattle.structure_rules.specs.declared.Structure.TheVariants.{General, UnitLower, Upper}
 use Rattle.structure_rules.specs.Structures.{view, IsEntry}
 use Rattle.structure_rules.proofs.Views.{IsEntry-or_not}
 use Rattle.matrix_algebra.specs.Triangles.{IsUnitLower, IsUpper}
 use Rattle.matrix_algebra.specs.Factors.{IsLu, IsLuBadPivot}
+use Rattle.matrix_algebra.proofs.BadPivots.{BadFactors, all_units, none_bad, one_bad}
 use Rattle.matrix_algebra.proofs.Substitution.{SolvesBelow, Solution, solution-unique, solution}
 use Rattle.matrix_algebra.proofs.Places.{rowwise}
 use Rattle.matrix_algebra.proofs.Packed.{pivot_of, pivot_of-unit, packed, packed-lower, packed-upper, view-upper_above, IsUnitLower-view, IsUpper-view, row_first}
@@ -55,53 +54,40 @@ IsLu-leading m n k r l u le factors = record {
     upper : IsUpper k u
     upper = record { below = λ i j h row. factors.upper.below i j h (omega arith) }
 
--- a bad pivot is a unit in no other factors that reach it
-lu_bad_pivot_elsewhere : (m n : ℕ) → 2 ≤ m → (r l u : Table) (k : ℕ) → IsLuBadPivot m n r k → IsLu m (k + 1) r l u → ¬ (IsUnit m (u k k))
-lu_bad_pivot_elsewhere m n two r l u k bad factors unit =
-    bad.bad (IsUnit-Cong m (u k k) (bad.u k k)
-    (Cong-sym (lu_upper_unique m (k + 1) two r bad.l bad.u l u bad.factors factors (λ i before. bad.units i (omega arith)) k k (omega arith) (omega arith))) unit)
+-- the factors of the leading blocks, as the lemmas of bad pivots take them
+abbrev lu_of : ℕ → Table → ℕ → Table → Table → Type 0
+lu_of m r n l u = IsLu m n r l u
+
+module _ (m : ℕ) (two : 2 ≤ m) (r : Table) where
+  agree : (n : ℕ) (l u l' u' : Table) → IsLu m n r l u → IsLu m n r l' u' → ((i : ℕ) → i + 1 < n → IsUnit m (u i i)) → (i : ℕ) → i < n → Cong m (u i i) (u' i i)
+  agree n l u l' u' factors factors' units i row = lu_upper_unique m n two r l u l' u' factors factors' units i i (omega arith) row
+
+  leading : (n k : ℕ) (l u : Table) → k ≤ n → IsLu m n r l u → IsLu m k r l u
+  leading n k l u le factors = IsLu-leading m n k r l u le factors
+
+-- a bad pivot of a matrix, as these lemmas take it, and back
+bad_of : (m n : ℕ) (r : Table) (k : ℕ) → IsLuBadPivot m n r k → BadFactors m (lu_of m r) k
+bad_of m n r k bad = record { l = bad.l; d = bad.u; factors = bad.factors; units = bad.units; bad = bad.bad }
+
+bad_from : (m n : ℕ) (r : Table) (k : ℕ) → k < n → BadFactors m (lu_of m r) k → IsLuBadPivot m n r k
+bad_from m n r k within bad = record { within = within; l = bad.l; u = bad.d; factors = bad.factors; units = bad.units; bad = bad.bad }
 
 -- a matrix has at most one bad pivot
 pub lu_bad_pivot_unique : (m n : ℕ) → 2 ≤ m → (r : Table) (k k' : ℕ) → IsLuBadPivot m n r k → IsLuBadPivot m n r k' → k ≡ k'
-lu_bad_pivot_unique m n two r k k' bad bad' = elim (cases_order k k') [
-  | inl same ↦ same
-  | inr other ↦ elim other [
-    | inl less ↦ absurd (earlier k k' bad bad' less)
-    | inr more ↦ absurd (earlier k' k bad' bad more)
-  ]
-]
-  where
-    earlier : (a b : ℕ) → IsLuBadPivot m n r a → IsLuBadPivot m n r b → a < b → ⊥
-    earlier a b first second h =
-        lu_bad_pivot_elsewhere m n two r second.l second.u a first (IsLu-leading m (b + 1) (a + 1) r second.l second.u (omega arith) second.factors) (second.units a h)
+lu_bad_pivot_unique m n two r k k' bad bad' = one_bad m two (lu_of m r) (leading m two r) (agree m two r) k k' (bad_of m n r k bad) (bad_of m n r k' bad')
 
 -- a bad pivot of one leading block is one of each other leading block that reaches it
 pub IsLuBadPivot-within : (m n n' k : ℕ) (r : Table) → k < n' → IsLuBadPivot m n r k → IsLuBadPivot m n' r k
-IsLuBadPivot-within m n n' k r within bad = record { within = within; l = bad.l; u = bad.u; factors = bad.factors; units = bad.units; bad = bad.bad }
+IsLuBadPivot-within m n n' k r within bad = bad_from m n' r k within (bad_of m n r k bad)
 
 -- a matrix with factors whose pivots are units has no bad pivot
 pub no_lu_bad_pivot : (m n : ℕ) → 2 ≤ m → (r l u : Table) → IsLu m n r l u → ((i : ℕ) → i < n → IsUnit m (u i i)) → (k : ℕ) → ¬ (IsLuBadPivot m n r k)
-no_lu_bad_pivot m n two r l u factors units k bad =
-    let within : k < n = bad.within in
-    lu_bad_pivot_elsewhere m n two r l u k bad (IsLu-leading m n (k + 1) r l u (omega arith) factors) (units k within)
+no_lu_bad_pivot m n two r l u factors units k bad = none_bad m two (lu_of m r) (leading m two r) (agree m two r) n l u factors units k bad.within (bad_of m n r k bad)
 
 -- where a matrix has no bad pivot, the pivots of its factors are units
 pub lu_units : (m n : ℕ) → 2 ≤ m → (r l u : Table) → IsLu m n r l u → ((k : ℕ) → ¬ (IsLuBadPivot m n r k)) → (i : ℕ) → i < n → IsUnit m (u i i)
-lu_units m n two r l u factors none i row = below n i row row
-  where
-    below : (q i : ℕ) → i < q → i < n → IsUnit m (u i i)
-    below zero i h row = absurd (omega arith)
-    below (suc q) i h row = elim (IsUnit-or_not m (u i i) two) [
-      | inl unit ↦ unit
-      | inr bad ↦ absurd (none i (record {
-        within = row;
-        l = l;
-        u = u;
-        factors = IsLu-leading m n (i + 1) r l u (omega arith) factors;
-        units = λ j before. below q j (omega arith) (omega arith);
-        bad = bad;
-      }))
-    ]
+lu_units m n two r l u factors none i row =
+    all_units m two (lu_of m r) (leading m two r) (agree m two r) n l u factors (λ k within bad. none k (bad_from m n r k within bad)) i row
 
 -- a matrix with no bad pivot before the last place has factors, whatever its last pivot is
 pub lu_solution : (m n : ℕ) → 2 ≤ m → (r other : Table) → ((k : ℕ) → k + 1 < n → ¬ (IsLuBadPivot m n r k))
