@@ -32,7 +32,8 @@ fn is_work_block<P: Parts>(op: &Operation, parts: &P, i: u32, j: u32) -> bool
 
 /// Whether a block of W has this task.
 fn has_task<P: Parts>(op: &Operation, parts: &P, task: Task) -> bool
-    ensures { result ≡ has_task op.now (P.counts parts.now) task.kind task.term task.i task.j task.k }
+    ensures { result
+        ≡ has_task op.now (P.counts parts.now) task.kind task.term task.i task.j task.k }
 {
     match task.kind {
         Kind::Pivots => false,
@@ -45,7 +46,8 @@ fn has_task<P: Parts>(op: &Operation, parts: &P, task: Task) -> bool
 
 /// Whether the product of the term with the task's number is one of known blocks; terms are numbered from 1.
 fn has_numbered_term<P: Parts>(op: &Operation, parts: &P, task: Task) -> bool
-    ensures { result ≡ has_numbered_term op.now (P.counts parts.now) task.term task.i task.j task.k }
+    ensures { result ≡ has_numbered_term op.now
+        (P.counts parts.now) task.term task.i task.j task.k }
 {
     if task.term == 0 {
         return false;

@@ -29,13 +29,15 @@ pub fn earlier_is_an_order()
 pub fn tasks_are_those_that_exist()
     ensures existing { (op : Operation) (counts : List ℕ) (a : Task)
         → Contains (tasks_of op counts) a → IsTrue (has op counts a) }
-    ensures all { (op : Operation) (counts : List ℕ) (a : Task) → (op.form ≡ Ldl → op.work.structure ≡ Lower)
+    ensures all { (op : Operation) (counts : List ℕ) (a : Task)
+        → (op.form ≡ Ldl → op.work.structure ≡ Lower)
         → IsTrue (has op counts a) → Contains (tasks_of op counts) a }
     ensures all_valid { (op : Operation) (counts : List ℕ) (a : Task) → IsValid op
         → IsTrue (has op counts a) → Contains (tasks_of op counts) a }
     ensures sorted { (op : Operation) (counts : List ℕ)
         → AllPairs (λ a b. IsTrue (is_earlier op a b)) (tasks_of op counts) }
-    ensures once { (op : Operation) (counts : List ℕ) → AllPairs (λ a b. a ≢ b) (tasks_of op counts) }
+    ensures once { (op : Operation) (counts : List ℕ)
+        → AllPairs (λ a b. a ≢ b) (tasks_of op counts) }
 {}
 
 /// What a task needs comes before it in the canonical order, where the factors of the operation's form are triangular,

@@ -25,7 +25,8 @@ const MOST_TASKS: usize = 262_144;
 pub fn tasks(alloc: Global, op: &Operation, parts: &Counts) -> Result<Vec<Task>, TaskFault>
     ensures found { IfOk result (λ tasks. tasks.items ≡ tasks_of op.now parts.now) }
     ensures few { IfOk result (λ tasks. vec_len tasks ≤ 262144) }
-    ensures too_many { IsErrOf result TaskFault.TooMany → 262144 < length (tasks_of op.now parts.now) }
+    ensures too_many { IsErrOf result TaskFault.TooMany
+        → 262144 < length (tasks_of op.now parts.now) }
 {
     let mut found = Vec::new(alloc);
     for at in 0..parts.parts(op.work.rows) {
@@ -93,9 +94,20 @@ fn add_block(
     ensures too_many { IsErrOf result TaskFault.TooMany →
         262144 < length found.old.items + length (block_of op.now parts.now i j) }
 {
-    add_products(op, parts, i, j, found)?;
-    add_updates(op, parts, Kind::Left, 0, i, j, found)?;
-    add_updates(op, parts, Kind::Right, 0, i, j, found)?;
+    let left = Task {
+        kind: Kind::Left,
+        term: 0,
+        i,
+        j,
+        k: 0,
+    };
+    let right = Task {
+        kind: Kind::Right,
+        term: 0,
+        i,
+        j,
+        k: 0,
+    };
     let solve = Task {
         kind: Kind::Solve,
         term: 0,
@@ -103,6 +115,9 @@ fn add_block(
         j,
         k: 0,
     };
+    add_products(op, parts, i, j, found)?;
+    add_updates(op, parts, left, found)?;
+    add_updates(op, parts, right, found)?;
     add_if_any(op, parts, solve, found)
 }
 
@@ -125,39 +140,45 @@ fn add_products(
         let Ok(term) = u32::try_from(at + 1) else {
             return Err(TaskFault::Memory);
         };
-        add_updates(op, parts, Kind::Term, term, i, j, found)?;
+        let product = Task {
+            kind: Kind::Term,
+            term,
+            i,
+            j,
+            k: 0,
+        };
+        add_updates(op, parts, product, found)?;
     }
     Ok(())
 }
 
-/// Adds the tasks of this kind and term of block (i, j), by their inner part.
+/// Adds the tasks of the kind, term and block of this one, by their inner part.
 fn add_updates(
     op: &Operation,
     parts: &Counts,
-    kind: Kind,
-    term: u32,
-    i: u32,
-    j: u32,
+    of: Task,
     found: &mut Vec<Task>,
 ) -> Result<(), TaskFault>
     requires { length found.old.items ≤ 262144 }
     ensures ok { OnOk result
         (found.new.items ≡ found.old.items
-        ++ updates_of op.now parts.now kind term i j (inner_count op.now parts.now kind term)) }
+        ++ updates_of op.now parts.now of.kind of.term of.i of.j
+        (inner_count op.now parts.now of.kind of.term)) }
     ensures few { OnOk result (length found.new.items ≤ 262144) }
     ensures too_many { IsErrOf result TaskFault.TooMany →
         262144 < length found.old.items
-        + length (updates_of op.now parts.now kind term i j (inner_count op.now parts.now kind term)) }
+        + length (updates_of op.now parts.now of.kind of.term of.i of.j
+        (inner_count op.now parts.now of.kind of.term)) }
 {
-    for k in 0..inner_count(op, parts, kind, term) {
+    for k in 0..inner_count(op, parts, of.kind, of.term) {
         add_if_any(
             op,
             parts,
             Task {
-                kind,
-                term,
-                i,
-                j,
+                kind: of.kind,
+                term: of.term,
+                i: of.i,
+                j: of.j,
                 k,
             },
             found,
@@ -197,7 +218,8 @@ fn add_if_any(
     found: &mut Vec<Task>,
 ) -> Result<(), TaskFault>
     requires { length found.old.items ≤ 262144 }
-    ensures ok { OnOk result (found.new.items ≡ found.old.items ++ task_if_any op.now parts.now task) }
+    ensures ok { OnOk result (found.new.items ≡ found.old.items
+        ++ task_if_any op.now parts.now task) }
     ensures few { OnOk result (length found.new.items ≤ 262144) }
     ensures too_many { IsErrOf result TaskFault.TooMany →
         262144 < length found.old.items + length (task_if_any op.now parts.now task) }
