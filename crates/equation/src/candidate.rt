@@ -76,7 +76,8 @@ impl Candidate<'_> {
     pub fn write_right(&self, out: &mut [u64], at: Place)
         requires candidate { IsCandidate self.now }
         requires piece { IsPiece self.now at (length out.old) }
-        ensures { HasPiece (right_side self.now.m self.now.op.now (knowns_of self.now) (work_of self.now)) at out.new }
+        ensures { HasPiece (right_side self.now.m self.now.op.now (knowns_of self.now)
+            (work_of self.now)) at out.new }
     {
         let work = FactorView {
             matrix: self.work(),
@@ -94,7 +95,8 @@ impl Candidate<'_> {
         requires candidate { IsCandidate self.now }
         requires form { self.now.op.now.form ≡ Left t }
         requires piece { IsPiece self.now at (length out.old) }
-        ensures { HasPiece (left_side self.now.m self.now.op.now (knowns_of self.now) self.now.after.now) at out.new }
+        ensures { HasPiece (left_side self.now.m self.now.op.now
+            (knowns_of self.now) self.now.after.now) at out.new }
     {
         let (t, x) = (self.factor(t), self.seen(self.op.work.structure));
         write_product(self.m, out, &t, &x, at);
@@ -105,7 +107,8 @@ impl Candidate<'_> {
         requires candidate { IsCandidate self.now }
         requires form { self.now.op.now.form ≡ Right t }
         requires piece { IsPiece self.now at (length out.old) }
-        ensures { HasPiece (left_side self.now.m self.now.op.now (knowns_of self.now) self.now.after.now) at out.new }
+        ensures { HasPiece (left_side self.now.m self.now.op.now
+            (knowns_of self.now) self.now.after.now) at out.new }
     {
         let (t, x) = (self.factor(t), self.seen(self.op.work.structure));
         write_product(self.m, out, &x, &t, at);
@@ -116,7 +119,8 @@ impl Candidate<'_> {
         requires candidate { IsCandidate self.now }
         requires form { self.now.op.now.form ≡ Sylvester t u minus }
         requires piece { IsPiece self.now at (length out.old) }
-        ensures { HasPiece (left_side self.now.m self.now.op.now (knowns_of self.now) self.now.after.now) at out.new }
+        ensures { HasPiece (left_side self.now.m self.now.op.now
+            (knowns_of self.now) self.now.after.now) at out.new }
     {
         let mut second = [0; PIECE];
         let second = &mut second[..out.len()];
@@ -132,7 +136,8 @@ impl Candidate<'_> {
         requires candidate { IsCandidate self.now }
         requires form { self.now.op.now.form ≡ Lu }
         requires piece { IsPiece self.now at (length out.old) }
-        ensures { HasPiece (left_side self.now.m self.now.op.now (knowns_of self.now) self.now.after.now) at out.new }
+        ensures { HasPiece (left_side self.now.m self.now.op.now
+            (knowns_of self.now) self.now.after.now) at out.new }
     {
         let (l, u) = (self.seen(Structure::UnitLower), self.seen(Structure::Upper));
         write_product(self.m, out, &l, &u, at);
@@ -143,7 +148,8 @@ impl Candidate<'_> {
         requires candidate { IsCandidate self.now }
         requires form { self.now.op.now.form ≡ Ldl }
         requires piece { IsPiece self.now at (length out.old) }
-        ensures { HasPiece (left_side self.now.m self.now.op.now (knowns_of self.now) self.now.after.now) at out.new }
+        ensures { HasPiece (left_side self.now.m self.now.op.now
+            (knowns_of self.now) self.now.after.now) at out.new }
     {
         write_ldl(self.m, out, self.after, at);
     }
@@ -153,7 +159,8 @@ impl Candidate<'_> {
         requires candidate { IsCandidate self.now }
         requires form { self.now.op.now.form ≡ Assign }
         requires piece { IsPiece self.now at (length out.old) }
-        ensures { HasPiece (left_side self.now.m self.now.op.now (knowns_of self.now) self.now.after.now) at out.new }
+        ensures { HasPiece (left_side self.now.m self.now.op.now
+            (knowns_of self.now) self.now.after.now) at out.new }
     {
         let x = self.seen(self.op.work.structure);
         write_row(out, &x, at);
@@ -163,7 +170,8 @@ impl Candidate<'_> {
     pub fn write_left(&self, out: &mut [u64], at: Place)
         requires candidate { IsCandidate self.now }
         requires piece { IsPiece self.now at (length out.old) }
-        ensures { HasPiece (left_side self.now.m self.now.op.now (knowns_of self.now) self.now.after.now) at out.new }
+        ensures { HasPiece (left_side self.now.m self.now.op.now
+            (knowns_of self.now) self.now.after.now) at out.new }
     {
         match self.op.form {
             Form::Assign => self.write_assigned(out, at),

@@ -29,7 +29,8 @@ fn is_unit(m: Modulus, a: u64) -> bool
 fn first_on_diagonal(m: Modulus, t: &FactorView) -> Option<Place>
     requires readable { IsReadable m t.now }
     requires square { view_rows t.now ≡ view_cols t.now }
-    ensures { MatchOption result ((i : ℕ) → i < view_rows t.now → IsUnit m (view_table t.now i i)) (IsFirstOnDiagonal m (view_rows t.now) (λ i. view_table t.now i i)) }
+    ensures { MatchOption result ((i : ℕ) → i < view_rows t.now → IsUnit m (view_table t.now i i))
+        (IsFirstOnDiagonal m (view_rows t.now) (λ i. view_table t.now i i)) }
 {
     for i in 0..t.rows() {
         if !is_unit(m, t.entry(i, i)) {
@@ -44,7 +45,8 @@ fn first_in_row(m: Modulus, minus: bool, a: u64, u: &FactorView) -> Option<u32>
     requires residue { a < m }
     requires readable { IsReadable m u.now }
     requires square { view_rows u.now ≡ view_cols u.now }
-    ensures { MatchOption result ((j : ℕ) → j < view_rows u.now → IsUnit m (combined_at m minus a (view_table u.now j j)))
+    ensures { MatchOption result ((j : ℕ) → j < view_rows u.now
+        → IsUnit m (combined_at m minus a (view_table u.now j j)))
         (λ col. (col < view_rows u.now) × ¬ (IsUnit m (combined_at m minus a (view_table u.now col col)))
         × ((j : ℕ) → j < col → IsUnit m (combined_at m minus a (view_table u.now j j)))) }
 {
@@ -62,7 +64,8 @@ fn first_by_rows(m: Modulus, minus: bool, t: &FactorView, u: &FactorView) -> Opt
     requires second { IsReadable m u.now }
     requires first_square { view_rows t.now ≡ view_cols t.now }
     requires second_square { view_rows u.now ≡ view_cols u.now }
-    ensures { MatchOption result ((i j : ℕ) → i < view_rows t.now → j < view_rows u.now → IsUnit m (combined_at m minus (view_table t.now i i) (view_table u.now j j)))
+    ensures { MatchOption result ((i j : ℕ) → i < view_rows t.now → j < view_rows u.now
+        → IsUnit m (combined_at m minus (view_table t.now i i) (view_table u.now j j)))
         (IsFirstByRows m (view_rows t.now) (view_rows u.now) (λ i j. combined_at m minus (view_table t.now i i) (view_table u.now j j))) }
 {
     for i in 0..t.rows() {
@@ -79,7 +82,9 @@ fn first_given(op: &Operation, m: Modulus, matrices: &[Matrix], bind: &Binding) 
     requires valid { IsValid op.now }
     requires fits { Fits op.now matrices.now bind.now }
     requires residues { All (AreResidues m) matrices.now }
-    ensures { MatchOption result ((place : Place) → ¬ (IsFirstBadInputPivot m op.now (known_grids matrices.now bind.now) (nth_grid matrices.now bind.now.work) place))
+    ensures { MatchOption result ((place : Place)
+        → ¬ (IsFirstBadInputPivot m op.now (known_grids matrices.now bind.now)
+        (nth_grid matrices.now bind.now.work) place))
         (IsFirstBadInputPivot m op.now (known_grids matrices.now bind.now) (nth_grid matrices.now bind.now.work)) }
 {
     match op.form {
@@ -107,7 +112,9 @@ pub fn first_bad_input_pivot(
     requires valid { IsValid op.now }
     requires fits { Fits op.now matrices.now bind.now }
     requires residues { All (AreResidues m) matrices.now }
-    ensures { MatchOption result ((place : Place) → ¬ (IsFirstBadInputPivot m op.now (known_grids matrices.now bind.now) (nth_grid matrices.now bind.now.work) place))
+    ensures { MatchOption result ((place : Place)
+        → ¬ (IsFirstBadInputPivot m op.now (known_grids matrices.now bind.now)
+        (nth_grid matrices.now bind.now.work) place))
         (IsFirstBadInputPivot m op.now (known_grids matrices.now bind.now) (nth_grid matrices.now bind.now.work)) }
 {
     first_given(op, m, matrices.as_slice(), bind)

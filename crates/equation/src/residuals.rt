@@ -21,9 +21,12 @@ fn holds(c: &Candidate, at: Place, left: u64, right: u64) -> bool
     requires candidate { IsCandidate c.now }
     requires row_in { at.row < (work_of c.now).rows }
     requires col_in { at.col < (work_of c.now).cols }
-    requires left { left ≡ left_side c.now.m c.now.op.now (knowns_of c.now) c.now.after.now at.row at.col }
-    requires right { right ≡ right_side c.now.m c.now.op.now (knowns_of c.now) (work_of c.now) at.row at.col }
-    ensures { IsTrue result ↔ HoldsAt c.now.m c.now.op.now (knowns_of c.now) (work_of c.now) c.now.after.now at.row at.col }
+    requires left { left ≡ left_side c.now.m c.now.op.now
+        (knowns_of c.now) c.now.after.now at.row at.col }
+    requires right { right ≡ right_side c.now.m c.now.op.now (knowns_of c.now)
+        (work_of c.now) at.row at.col }
+    ensures { IsTrue result ↔ HoldsAt c.now.m c.now.op.now (knowns_of c.now)
+        (work_of c.now) c.now.after.now at.row at.col }
 {
     if c.op.work.structure.zero(at.row, at.col) {
         c.after.get(at.row, at.col) == c.work().get(at.row, at.col)
@@ -38,9 +41,12 @@ fn first_among(c: &Candidate, at: Place, left: &[u64], right: &[u64]) -> Option<
     requires candidate { IsCandidate c.now }
     requires piece { IsPiece c.now at (length left.now) }
     requires places { length right.now ≡ length left.now }
-    requires left { HasPiece (left_side c.now.m c.now.op.now (knowns_of c.now) c.now.after.now) at left.now }
-    requires right { HasPiece (right_side c.now.m c.now.op.now (knowns_of c.now) (work_of c.now)) at right.now }
-    ensures { MatchOption result ((j : ℕ) → j < length left.now → HoldsHere c.now at.row (at.col + j)) (IsFirstInPiece c.now at (length left.now)) }
+    requires left { HasPiece (left_side c.now.m c.now.op.now
+        (knowns_of c.now) c.now.after.now) at left.now }
+    requires right { HasPiece (right_side c.now.m c.now.op.now (knowns_of c.now)
+        (work_of c.now)) at right.now }
+    ensures { MatchOption result ((j : ℕ) → j < length left.now
+        → HoldsHere c.now at.row (at.col + j)) (IsFirstInPiece c.now at (length left.now)) }
 {
     for j in 0..left.len() {
         let place = Place {
@@ -58,7 +64,8 @@ fn first_among(c: &Candidate, at: Place, left: &[u64], right: &[u64]) -> Option<
 fn first_in_piece(c: &Candidate, at: Place, width: usize) -> Option<Place>
     requires candidate { IsCandidate c.now }
     requires piece { IsPiece c.now at width }
-    ensures { MatchOption result ((j : ℕ) → j < width → HoldsHere c.now at.row (at.col + j)) (IsFirstInPiece c.now at width) }
+    ensures { MatchOption result ((j : ℕ) → j < width → HoldsHere c.now at.row (at.col + j))
+        (IsFirstInPiece c.now at width) }
 {
     let mut left = [0; PIECE];
     let mut right = [0; PIECE];
@@ -92,7 +99,8 @@ fn first_in_row(c: &Candidate, row: u32) -> Option<Place>
 /// Of all rows.
 fn first_in_rows(c: &Candidate) -> Option<Place>
     requires candidate { IsCandidate c.now }
-    ensures { MatchOption result (Satisfies c.now.m c.now.op.now (knowns_of c.now) (work_of c.now) c.now.after.now)
+    ensures { MatchOption result (Satisfies c.now.m c.now.op.now (knowns_of c.now)
+        (work_of c.now) c.now.after.now)
         (IsFirstResidual c.now.m c.now.op.now (knowns_of c.now) (work_of c.now) c.now.after.now) }
 {
     for row in 0..c.after.rows() {
@@ -122,8 +130,10 @@ pub fn residual(
     requires rows { after.now.rows ≡ (nth_grid matrices.now bind.now.work).rows }
     requires cols { after.now.cols ≡ (nth_grid matrices.now bind.now.work).cols }
     requires after { AreResidues m after.now }
-    ensures none { IsNone result ↔ Satisfies m op.now (known_grids matrices.now bind.now) (nth_grid matrices.now bind.now.work) after.now }
-    ensures first { IfSome result (IsFirstResidual m op.now (known_grids matrices.now bind.now) (nth_grid matrices.now bind.now.work) after.now) }
+    ensures none { IsNone result ↔ Satisfies m op.now (known_grids matrices.now bind.now)
+        (nth_grid matrices.now bind.now.work) after.now }
+    ensures first { IfSome result (IsFirstResidual m op.now (known_grids matrices.now bind.now)
+        (nth_grid matrices.now bind.now.work) after.now) }
 {
     first_in_rows(&Candidate {
         m,
@@ -153,7 +163,8 @@ pub fn residual_row(
     requires row_in { row < after.now.rows }
     ensures none { IsNone result ↔ ((j : ℕ) → j < after.now.cols
         → HoldsAt m op.now (known_grids matrices.now bind.now) (nth_grid matrices.now bind.now.work) after.now row j) }
-    ensures first { IfSome result (IsFirstInRow m op.now (known_grids matrices.now bind.now) (nth_grid matrices.now bind.now.work) after.now row) }
+    ensures first { IfSome result (IsFirstInRow m op.now (known_grids matrices.now bind.now)
+        (nth_grid matrices.now bind.now.work) after.now row) }
 {
     let candidate = Candidate {
         m,

@@ -17,11 +17,20 @@ use structure_rules::Structure;
 /// How many entries of a row are added up together.
 pub(crate) const PIECE: usize = 64;
 
+/// Makes the sums 0.
+fn clear(sums: &mut [u128])
+    ensures { (j : ℕ) → j < length sums.old → slice_index sums.new j ≡ 0 }
+{
+    sums.fill(0);
+}
+
 /// Adds x times each number of the row to the sum in its place.
 fn add_multiple(sums: &mut [u128], x: u64, row: &[u64])
     requires places { length row.now ≡ length sums.old }
-    requires room { (j : ℕ) → j < length sums.old → slice_index sums.old j + x * slice_index row.now j < 2 ^ 128 }
-    ensures { (j : ℕ) → j < length sums.old → slice_index sums.new j ≡ slice_index sums.old j + x * slice_index row.now j }
+    requires room { (j : ℕ) → j < length sums.old
+        → slice_index sums.old j + x * slice_index row.now j < 2 ^ 128 }
+    ensures { (j : ℕ) → j < length sums.old
+        → slice_index sums.new j ≡ slice_index sums.old j + x * slice_index row.now j }
 {
     for j in 0..sums.len() {
         sums[j] += u128::from(x) * u128::from(row[j]);
@@ -34,8 +43,10 @@ fn add_entries(sums: &mut [u128], x: u64, v: &FactorView, k: u32, from: u32)
     requires row_in { k < view_rows v.now }
     requires within { from + length sums.old ≤ view_cols v.now }
     requires places { from + length sums.old < 2 ^ 32 }
-    requires room { (j : ℕ) → j < length sums.old → slice_index sums.old j + x * view_table v.now k (from + j) < 2 ^ 128 }
-    ensures { (j : ℕ) → j < length sums.old → slice_index sums.new j ≡ slice_index sums.old j + x * view_table v.now k (from + j) }
+    requires room { (j : ℕ) → j < length sums.old
+        → slice_index sums.old j + x * view_table v.now k (from + j) < 2 ^ 128 }
+    ensures { (j : ℕ) → j < length sums.old
+        → slice_index sums.new j ≡ slice_index sums.old j + x * view_table v.now k (from + j) }
 {
     for j in 0..sums.len() {
         sums[j] += u128::from(x) * u128::from(v.entry(k, from + j as u32));
@@ -48,8 +59,10 @@ fn add_row(sums: &mut [u128], x: u64, v: &FactorView, k: u32, from: u32)
     requires row_in { k < view_rows v.now }
     requires within { from + length sums.old ≤ view_cols v.now }
     requires places { from + length sums.old < 2 ^ 32 }
-    requires room { (j : ℕ) → j < length sums.old → slice_index sums.old j + x * view_table v.now k (from + j) < 2 ^ 128 }
-    ensures { (j : ℕ) → j < length sums.old → slice_index sums.new j ≡ slice_index sums.old j + x * view_table v.now k (from + j) }
+    requires room { (j : ℕ) → j < length sums.old
+        → slice_index sums.old j + x * view_table v.now k (from + j) < 2 ^ 128 }
+    ensures { (j : ℕ) → j < length sums.old
+        → slice_index sums.new j ≡ slice_index sums.old j + x * view_table v.now k (from + j) }
 {
     if v.primed || v.structure != Structure::General {
         add_entries(sums, x, v, k, from);
@@ -60,7 +73,8 @@ fn add_row(sums: &mut [u128], x: u64, v: &FactorView, k: u32, from: u32)
     }
 }
 
-/// Makes the sums those of row `at.row` of a product, from column `at.col` on.
+/// Makes the sums those of row `at.row` of a product, from column `at.col` on. Inner places at which the structures of the
+/// factors have zeros are left out.
 fn multiply_row(sums: &mut [u128], f: &FactorView, g: &FactorView, at: Place)
     requires first { IsReadable (2 ^ 32) f.now }
     requires second { IsReadable (2 ^ 32) g.now }
@@ -68,17 +82,21 @@ fn multiply_row(sums: &mut [u128], f: &FactorView, g: &FactorView, at: Place)
     requires row_in { at.row < view_rows f.now }
     requires within { at.col + length sums.old ≤ view_cols g.now }
     requires places { at.col + length sums.old < 2 ^ 32 }
-    ensures { (j : ℕ) → j < length sums.old → slice_index sums.new j ≡ product (view_cols f.now) (view_table f.now) (view_table g.now) at.row (at.col + j) }
+    ensures { (j : ℕ) → j < length sums.old
+        → slice_index sums.new j ≡ product (view_cols f.now) (view_table f.now)
+        (view_table g.now) at.row (at.col + j) }
 {
-    sums.fill(0);
-    for k in 0..f.cols() {
+    clear(sums);
+    let end = u32::min(f.row_end(at.row), g.col_end(at.col + sums.len() as u32));
+    let start = u32::min(end, u32::max(f.row_start(at.row), g.col_start(at.col)));
+    for k in start..end {
         let x = f.entry(at.row, k);
         add_row(sums, x, g, k, at.col);
     }
 }
 
 /// Makes the sums those of row `at.row` of L * D * L', from column `at.col` on, where the matrix packs L and D. Each
-/// L * D is reduced first.
+/// L * D is reduced first. The products end at the diagonals of L and of L'.
 fn multiply_ldl_row(m: Modulus, sums: &mut [u128], w: &Matrix, at: Place)
     requires modulus { IsModulus m }
     requires residues { AreResidues m w.now }
@@ -94,8 +112,9 @@ fn multiply_ldl_row(m: Modulus, sums: &mut [u128], w: &Matrix, at: Place)
         structure: Structure::UnitLower,
         primed: true,
     };
-    sums.fill(0);
-    for k in 0..w.rows() {
+    clear(sums);
+    let _rows = w.rows();
+    for k in 0..u32::min(at.row + 1, at.col + sums.len() as u32) {
         let x = m.mul(w.view_entry(Structure::UnitLower, at.row, k), w.get(k, k));
         add_row(sums, x, &lower, k, at.col);
     }
@@ -121,7 +140,9 @@ pub(crate) fn write_product(m: Modulus, out: &mut [u64], f: &FactorView, g: &Fac
     requires within { at.col + length out.old ≤ view_cols g.now }
     requires few { length out.old ≤ 64 }
     requires places { at.col + length out.old < 2 ^ 32 }
-    ensures { (j : ℕ) → j < length out.old → slice_index out.new j ≡ times m (view_cols f.now) (view_table f.now) (view_table g.now) at.row (at.col + j) }
+    ensures { (j : ℕ) → j < length out.old
+        → slice_index out.new j ≡ times m (view_cols f.now) (view_table f.now)
+        (view_table g.now) at.row (at.col + j) }
 {
     let mut sums = [0; PIECE];
     let width = out.len();
@@ -153,7 +174,8 @@ pub(crate) fn write_row(out: &mut [u64], v: &FactorView, at: Place)
     requires row_in { at.row < view_rows v.now }
     requires within { at.col + length out.old ≤ view_cols v.now }
     requires places { at.col + length out.old < 2 ^ 32 }
-    ensures { (j : ℕ) → j < length out.old → slice_index out.new j ≡ view_table v.now at.row (at.col + j) }
+    ensures { (j : ℕ) → j < length out.old
+        → slice_index out.new j ≡ view_table v.now at.row (at.col + j) }
 {
     for j in 0..out.len() {
         out[j] = v.entry(at.row, at.col + j as u32);
@@ -175,7 +197,9 @@ pub(crate) fn combine(m: Modulus, minus: bool, out: &mut [u64], other: &[u64])
     requires places { length other.now ≡ length out.old }
     requires first { (j : ℕ) → j < length out.old → slice_index out.old j < m }
     requires second { (j : ℕ) → j < length out.old → slice_index other.now j < m }
-    ensures { (j : ℕ) → j < length out.old → slice_index out.new j ≡ combined_at m minus (slice_index out.old j) (slice_index other.now j) }
+    ensures { (j : ℕ) → j < length out.old
+        → slice_index out.new j ≡ combined_at m minus (slice_index out.old j)
+        (slice_index other.now j) }
 {
     for j in 0..out.len() {
         out[j] = combined(m, minus, out[j], other[j]);

@@ -4,7 +4,8 @@ use Rattle.residue_sums.specs.Grids.{entry}
 use Rattle.residue_sums.proofs.Sums.{sum_step}
 use Rattle.structure_rules.specs.declared.Structure.TheVariants.{Diagonal, UnitLower}
 use Rattle.structure_rules.specs.Structures.{view}
-use Rattle.equation.proofs.RowProducts.{lower_small, room_for_product, scaled_entry, scaled_small}
+use Rattle.structure_rules.proofs.Views.{view-zero}
+use Rattle.equation.proofs.RowProducts.{lower_small, product-ends, room_for_product, scaled_above, scaled_entry, scaled_small}
 use Rattle.equation.proofs.row_products.multiply_ldl_row.Goals as goal
 
 -- x is an entry of L * D
@@ -31,3 +32,13 @@ loop-k-preserved c = λ j within.
     (c.loop-k.invariant j (omega arith))
     (ap (λ (v : ℕ). v * oriented true (view UnitLower w) c.loop-k.k (c.args.at.col + j)) x_is)
     (c.add_row.ensures j (omega arith))
+
+pub returns : goal.returns
+returns c = λ j within.
+    let w : Table = entry c.args.w.now in
+    let n : ℕ = c.args.w.now.rows in
+    c.loop-k.invariant j (omega arith)
+    ∙ product-ends n (times c.args.m n (view UnitLower w) (view Diagonal w)) (oriented true (view UnitLower w)) c.args.at.row (c.args.at.col + j)
+    (c.args.at.row + 1) (c.args.at.col + j + 1) c.loop-k.k (omega arith) (omega arith)
+    (λ k past below. scaled_above c.args.m n w c.args.at.row k (omega (arith, c.requires.modulus.at_least_two)) (omega arith) below)
+    (λ k past below. view-zero UnitLower w (c.args.at.col + j) k (omega arith))
