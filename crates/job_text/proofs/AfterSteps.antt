@@ -2,6 +2,7 @@
 use Rattle.std.proofs.Common.{◌≡◌, ◌≢◌, ℕ, ◌+◌, ◌<◌, ◌≤◌, List, [], ◌∷◌, ◌++◌, length, drop, get_or, Option, Result, Ok, Err, refl, sym, ap, subst, ◌∙◌, arith, inl, inr}
 use Rattle.std.proofs.lemmas.Bool.{cases_lt}
 use Rattle.std.proofs.lemmas.List.{at_drop_all, at_drop_more, get_or_default}
+use Rattle.std.proofs.lemmas.List.Elements.{All-nil}
 use Rattle.residue_sums.specs.Grids.{Grid}
 use Rattle.byte_texts.specs.Reading.{◌>>=◌, EndsWith}
 use Rattle.byte_texts.proofs.Binding.{EndsWith-along, EndsWith-bind}
@@ -10,7 +11,7 @@ use Rattle.text_scan.specs.FaultKinds.{Syntax}
 use Rattle.text_scan.specs.Lines.{Line}
 use Rattle.equation.specs.declared.job.Job.{Job}
 use Rattle.equation.specs.declared.job.Statement.{Statement}
-use Rattle.job_text.specs.AfterBlocks.{HasShortSizes, work_grid, work_name}
+use Rattle.job_text.specs.AfterBlocks.{HasShortSizes, HaveShortSizes, work_grid, work_name}
 use Rattle.job_text.specs.AfterFaults.{after_at, block_at, blocks_at}
 use Rattle.job_text.specs.JobFaults.{nothing_at}
 
@@ -28,6 +29,10 @@ blocks_due end job (s ∷ statements) some = refl
 pub still_due : (end : ℕ) (job : Job) → job.statements ≢ [] → after_at end job [] ≡ Err (Syntax on end)
 unfolding after_at
 still_due end job some = rw (blocks_due end job job.statements some) refl
+
+-- no work matrix is long
+pub no_sizes : (job : Job) → job.statements ≡ [] → HaveShortSizes job job.statements
+no_sizes job none = subst (HaveShortSizes job) (sym none) (All-nil (λ s. HasShortSizes (work_grid job s)))
 
 -- ---- block after block
 

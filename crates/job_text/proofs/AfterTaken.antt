@@ -172,11 +172,3 @@ pub after_found : (bytes : List ℕ) (rest : Rest) (job : Job) (read : Result (L
     → IfOk read (λ grids. SpellsAfter bytes rest job grids)
 after_found bytes rest job (Ok grids) small gives short = after_spelled bytes rest job grids small short gives
 after_found bytes rest job (Err fault) small gives short = tt
-
--- where no statement is
-pub none_found : (bytes : List ℕ) (rest : Rest) (job : Job) (read : Result (List Grid) JobFault) → job.modulus ≤ 2 ^ 64 → Gives job_fault (λ (grids : List Grid). grids) read (after_in bytes rest job) → IfOk read (λ grids. job.statements ≡ [])
-    → IfOk read (λ grids. SpellsAfter bytes rest job grids)
-none_found bytes rest job (Ok grids) small gives none =
-    let short : HaveShortSizes job job.statements = subst (HaveShortSizes job) (sym none) (All-nil (λ s. HasShortSizes (work_grid job s))) in
-    after_spelled bytes rest job grids small short gives
-none_found bytes rest job (Err fault) small gives none = tt

@@ -178,7 +178,7 @@ fn read_text(alloc: Global, bytes: &[u8], first: u32, job: &Job) -> Result<Matri
 /// The matrices of a text that has ended on a line: there are none, where none is due.
 fn read_nothing(alloc: Global, line: u32, job: &Job) -> Result<MatrixList, JobFault>
     ensures read { Gives job_fault (λ x. x) result (after_at line job.now []) }
-    ensures none { IfOk result (λ _. job.now.statements ≡ []) }
+    ensures sizes { IfOk result (λ _. HaveShortSizes job.now job.now.statements) }
 {
     if job.statements.is_empty() {
         Ok(MatrixList::new(alloc))
@@ -206,6 +206,7 @@ pub fn read_after(
     requires job { IsJob job.now }
     ensures read { Gives job_fault (λ x. x) result (after_in bytes.now rest job.now) }
     ensures found { IfOk result (λ x. SpellsAfter bytes.now rest job.now x) }
+    ensures sizes { IfOk result (λ _. HaveShortSizes job.now job.now.statements) }
     ensures no_bad_byte { IfErr result (λ e. (line : ℕ) → e ≢ BadByte line) }
 {
     if rest.at as usize == bytes.len() {

@@ -1,7 +1,7 @@
 use Rattle.std.proofs.Common.{◌<◌, length, arith}
 use Rattle.job_text.proofs.NoBadByte.{no_bad_byte}
 use Rattle.job_text.proofs.AfterPlaces.{at_end, line_below}
-use Rattle.job_text.proofs.AfterTaken.{after_found, none_found}
+use Rattle.job_text.proofs.AfterTaken.{after_found}
 use Rattle.std.proofs.lemmas.List.{take_rest}
 use Rattle.job_text.proofs.after.read_after.Goals as goal
 
@@ -14,7 +14,7 @@ pub returns-then-rest-bytes-clause-read : goal.returns-then-rest-bytes-clause-re
 returns-then-rest-bytes-clause-read c = rw (at_end c.args.bytes.now c.args.rest c.args.job.now c.if-rest-bytes.true) c.read_nothing.ensures.read
 
 pub returns-then-rest-bytes-clause-found : goal.returns-then-rest-bytes-clause-found
-returns-then-rest-bytes-clause-found c = none_found c.args.bytes.now c.args.rest c.args.job.now c.read_nothing.result (omega (arith, c.requires.job.modulus)) (returns-then-rest-bytes-clause-read c) c.read_nothing.ensures.none
+returns-then-rest-bytes-clause-found c = after_found c.args.bytes.now c.args.rest c.args.job.now c.read_nothing.result (omega (arith, c.requires.job.modulus)) (returns-then-rest-bytes-clause-read c) c.read_nothing.ensures.sizes
 
 pub returns-else-rest-bytes-clause-found : goal.returns-else-rest-bytes-clause-found
 returns-else-rest-bytes-clause-found c =
