@@ -15,7 +15,8 @@ ghost use Rattle.block_tasks.specs.Effects.{AreKnown, factor_block, factor_rows}
 /// An entry of a block of op(F) that is no zero block is the entry of op(F), for each structure, and where the factor is
 /// primed. A matrix whose structure isn't general is square.
 pub fn blocks_of_factors_are_parts_of_them()
-    ensures { (b : ℕ) (op : Operation) (knowns : List Grid) (blocks : ℕ → Blocks) (f : Factor) → AreKnown b knowns blocks
+    ensures { (b : ℕ) (op : Operation) (knowns : List Grid) (blocks : ℕ → Blocks) (f : Factor)
+        → AreKnown b knowns blocks
         → ((known op f.known).structure ≢ General → (known_grid knowns f.known).rows ≡ (known_grid knowns f.known).cols)
         → (i k r c : ℕ) → IsTrue (is_inside op f i k)
         → r < part_length (factor_rows knowns f) b i → c < part_length (factor_cols knowns f) b k

@@ -44,7 +44,8 @@ impl JobBlocks<'_> {
     fn reads(&self, alloc: Global, s: u32, task: Task) -> Result<NumberList, AllocError>
         requires statement { HasStatement self.now s }
         requires task { HasTask self.now s task }
-        ensures { IfOk result (λ reads. reads ≡ reads_of self.now.b self.now.job.matrices (operation_at self.now s)
+        ensures { IfOk result (λ reads. reads
+            ≡ reads_of self.now.b self.now.job.matrices (operation_at self.now s)
             (binding_at self.now s) (pivot_number self.now.job self.now.b s) task.kind task.term task.i task.j task.k) }
     {
         match task.kind {

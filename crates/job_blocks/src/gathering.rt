@@ -35,9 +35,11 @@ impl JobBlocks<'_> {
         blocks: &mut Vec<Matrix>,
     ) -> Result<Matrix, AllocError>
         requires matrix { k < length self.now.job.matrices }
-        requires count { length blocks.old.items ≡ blocks_in self.now.b (take (k + 1) self.now.job.matrices) }
+        requires count { length blocks.old.items
+            ≡ blocks_in self.now.b (take (k + 1) self.now.job.matrices) }
         requires shapes { HaveBlockShapesOf self.now k blocks.old.items }
-        ensures matrix { IfOk result (λ matrix. matrix ≡ gathered_matrix self.now blocks.old.items k) }
+        ensures matrix { IfOk result (λ matrix.
+            matrix ≡ gathered_matrix self.now blocks.old.items k) }
         ensures rest { OnOk result (blocks.new.items
             ≡ take (blocks_in self.now.b (take k self.now.job.matrices)) blocks.old.items) }
     {

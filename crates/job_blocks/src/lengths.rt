@@ -28,7 +28,8 @@ impl JobBlocks<'_> {
     /// The length of dimension d of statement s, as the matrix of the first operand that is on it has it.
     fn length(&self, s: u32, d: u32) -> u32
         requires { HasStatement self.now s }
-        ensures { result ≡ length_of (operation_at self.now s) self.now.job.matrices (binding_at self.now s) d }
+        ensures { result ≡ length_of (operation_at self.now s) self.now.job.matrices
+            (binding_at self.now s) d }
     {
         let op = self.operation(s);
         if op.work.rows == d {
@@ -48,7 +49,8 @@ impl JobBlocks<'_> {
     fn length_among(&self, operands: &[Operand], numbers: &[u32], d: u32) -> u32
         requires count { length numbers.now ≡ length operands.now }
         requires exist { All (λ k. k < length self.now.job.matrices) numbers.now }
-        ensures { result ≡ length_among operands.now (map (nth_grid self.now.job.matrices) numbers.now) d }
+        ensures { result ≡ length_among operands.now
+            (map (nth_grid self.now.job.matrices) numbers.now) d }
     {
         for at in 0..operands.len() {
             let operand = &operands[at];

@@ -13,8 +13,10 @@ use matrix_core::Matrix;
 /// Adds x times each number of the row to the sum in its place.
 fn add_multiple(sums: &mut [u128], x: u64, row: &[u64])
     requires places { length row.now ≡ length sums.old }
-    requires room { (j : ℕ) → j < length sums.old → slice_index sums.old j + x * slice_index row.now j < 2 ^ 128 }
-    ensures { (j : ℕ) → j < length sums.old → slice_index sums.new j ≡ slice_index sums.old j + x * slice_index row.now j }
+    requires room { (j : ℕ) → j < length sums.old
+        → slice_index sums.old j + x * slice_index row.now j < 2 ^ 128 }
+    ensures { (j : ℕ) → j < length sums.old
+        → slice_index sums.new j ≡ slice_index sums.old j + x * slice_index row.now j }
 {
     for j in 0..sums.len() {
         sums[j] += u128::from(x) * u128::from(row[j]);
@@ -28,7 +30,9 @@ fn multiply_row(sums: &mut [u128], row: &[u64], b: &Matrix)
     requires places { length sums.old ≡ b.now.cols }
     requires first { All (λ x. x < 2 ^ 32) row.now }
     requires second { AreResidues (2 ^ 32) b.now }
-    ensures sums { (j : ℕ) → j < b.now.cols → slice_index sums.new j ≡ sum_below (λ k. slice_index row.now k * entry b.now k j) (length row.now) }
+    ensures sums { (j : ℕ) → j < b.now.cols
+        → slice_index sums.new j ≡ sum_below (λ k. slice_index row.now k * entry b.now k j)
+        (length row.now) }
 {
     let cols = sums.len();
     let entries = b.entries();
@@ -42,8 +46,11 @@ fn multiply_row(sums: &mut [u128], row: &[u64], b: &Matrix)
 fn add_reduced(m: Modulus, entries: &mut [u64], start: usize, sums: &[u128])
     requires within { start + length sums.now ≤ length entries.old }
     requires residues { All (λ x. x < m) entries.old }
-    ensures here { (j : ℕ) → j < length sums.now → slice_index entries.new (start + j) ≡ (slice_index entries.old (start + j) + slice_index sums.now j % m) % m }
-    ensures others { (p : ℕ) → (p < start) ⊎ (start + length sums.now ≤ p) → slice_index entries.new p ≡ slice_index entries.old p }
+    ensures here { (j : ℕ) → j < length sums.now
+        → slice_index entries.new (start + j)
+        ≡ (slice_index entries.old (start + j) + slice_index sums.now j % m) % m }
+    ensures others { (p : ℕ) → (p < start) ⊎ (start + length sums.now ≤ p)
+        → slice_index entries.new p ≡ slice_index entries.old p }
     ensures residues { All (λ x. x < m) entries.new }
 {
     for j in 0..sums.len() {
@@ -70,7 +77,9 @@ fn add_row(
     requires second { AreResidues m second.now }
     ensures here { (j : ℕ) → j < second.now.cols → slice_index entries.new (i * second.now.cols + j)
         ≡ (slice_index entries.old (i * second.now.cols + j) + times m first.now.cols (entry first.now) (entry second.now) i j) % m }
-    ensures others { (p : ℕ) → (p < i * second.now.cols) ⊎ (i * second.now.cols + second.now.cols ≤ p) → slice_index entries.new p ≡ slice_index entries.old p }
+    ensures others { (p : ℕ) → (p < i * second.now.cols)
+        ⊎ (i * second.now.cols + second.now.cols ≤ p)
+        → slice_index entries.new p ≡ slice_index entries.old p }
     ensures residues { All (λ x. x < m) entries.new }
 {
     let (inner, cols) = (first.cols() as usize, second.cols() as usize);

@@ -181,7 +181,8 @@ fn fill_straight(o: &Oper<'_>, window: Window, panel: &mut [u64])
     requires rows_in { window.first + window.lines ≤ o.now.part.rows }
     requires within { window.from + window.height ≤ o.now.part.cols }
     requires room { window.lines * window.height ≤ length panel.old }
-    ensures { (g k : ℕ) → g < window.lines → k < window.height → slice_index panel.new (g * window.height + k)
+    ensures { (g k : ℕ) → g < window.lines → k < window.height
+        → slice_index panel.new (g * window.height + k)
         ≡ view o.now.structure (entry o.now.part) (window.first + g) (window.from + k) }
 {
     let _rows = o.part.rows();
@@ -203,7 +204,8 @@ fn fill_across(o: &Oper<'_>, window: Window, panel: &mut [u64])
     requires cols_in { window.first + window.lines ≤ o.now.part.cols }
     requires within { window.from + window.height ≤ o.now.part.rows }
     requires room { window.lines * window.height ≤ length panel.old }
-    ensures { (g k : ℕ) → g < window.lines → k < window.height → slice_index panel.new (g * window.height + k)
+    ensures { (g k : ℕ) → g < window.lines → k < window.height
+        → slice_index panel.new (g * window.height + k)
         ≡ view o.now.structure (entry o.now.part) (window.from + k) (window.first + g) }
 {
     for k in 0..window.height {
@@ -225,7 +227,8 @@ pub fn fill_lines(
     requires rows_in { first + lines ≤ op_rows o.now }
     requires within { from + height ≤ op_cols o.now }
     requires room { lines * height ≤ length panel.old }
-    ensures { (g k : ℕ) → g < lines → k < height → slice_index panel.new (g * height + k) ≡ op_table o.now (first + g) (from + k) }
+    ensures { (g k : ℕ) → g < lines → k < height
+        → slice_index panel.new (g * height + k) ≡ op_table o.now (first + g) (from + k) }
 {
     let window = Window {
         first,

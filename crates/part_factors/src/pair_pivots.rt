@@ -53,7 +53,8 @@ fn put_row(
     ensures inverts { OnOk result ((j : ℕ) → j < out.old.cols
         → (pair_pivots m minus (op_table t.now) (op_table u.now) i j * entry (grid_of out.new) i j) % m ≡ 1) }
     ensures range { OnOk result ((j : ℕ) → j < out.old.cols → entry (grid_of out.new) i j < m) }
-    ensures others { (a b : ℕ) → a < out.old.rows → b < out.old.cols → a ≢ i → entry (grid_of out.new) a b ≡ entry (grid_of out.old) a b }
+    ensures others { (a b : ℕ) → a < out.old.rows → b < out.old.cols → a ≢ i
+        → entry (grid_of out.new) a b ≡ entry (grid_of out.old) a b }
     ensures bad_pivot { (place : BadPivot) → result ≡ Err place
         → IsFirstInRow m out.old.cols i (pair_pivots m minus (op_table t.now) (op_table u.now)) place }
 {

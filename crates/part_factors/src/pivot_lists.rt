@@ -39,7 +39,8 @@ pub fn pivots(m: Modulus, t: Oper<'_>, out: &mut PartMut<'_>) -> Result<(), BadP
     ensures loan { loan_of out.new ≡ loan_of out.old }
     ensures part { IsPart out.new }
     ensures kept { IsKept out.old out.new }
-    ensures inverses { OnOk result (AreInverses m (op_table t.entry) (grid_of out.old) (grid_of out.new)) }
+    ensures inverses { OnOk result (AreInverses m (op_table t.entry) (grid_of out.old)
+        (grid_of out.new)) }
     ensures bad_pivot { (place : BadPivot) → (result ≡ Err place)
         ↔ IsFirstOnDiagonal m out.old.cols (λ i. op_table t.entry i i) (place_of place) }
 {

@@ -23,8 +23,10 @@ fn scale_row(m: Reducer, w: &mut PartMut<'_>, i: u32, scales: &Part<'_>)
     ensures loan { loan_of w.new ≡ loan_of w.old }
     ensures part { IsPart w.new }
     ensures kept { IsKept w.old w.new }
-    ensures here { (b : ℕ) → b < w.old.cols → entry (grid_of w.new) i b ≡ (entry (grid_of w.old) i b * entry scales.now 0 b) % m }
-    ensures others { (a b : ℕ) → a < w.old.rows → b < w.old.cols → a ≢ i → entry (grid_of w.new) a b ≡ entry (grid_of w.old) a b }
+    ensures here { (b : ℕ) → b < w.old.cols
+        → entry (grid_of w.new) i b ≡ (entry (grid_of w.old) i b * entry scales.now 0 b) % m }
+    ensures others { (a b : ℕ) → a < w.old.rows → b < w.old.cols → a ≢ i
+        → entry (grid_of w.new) a b ≡ entry (grid_of w.old) a b }
 {
     let _modulus = m.modulus();
     for j in 0..w.cols() {
@@ -38,7 +40,8 @@ fn scale_columns(m: Reducer, w: &mut PartMut<'_>, scales: &Part<'_>)
     requires part { IsPart w.old }
     requires one_row { scales.now.rows ≡ 1 }
     requires cols { scales.now.cols ≡ w.old.cols }
-    requires residues { (a b : ℕ) → a < w.old.rows → b < w.old.cols → entry (grid_of w.old) a b < m }
+    requires residues { (a b : ℕ) → a < w.old.rows → b < w.old.cols
+        → entry (grid_of w.old) a b < m }
     requires scales { (b : ℕ) → b < w.old.cols → entry scales.now 0 b < m }
     ensures loan { loan_of w.new ≡ loan_of w.old }
     ensures part { IsPart w.new }

@@ -31,7 +31,8 @@ impl<'a> LineSystem<'a> {
         ensures oper { IsOper result }
         ensures rows { op_rows result ≡ line_count self.now.turned (grid_of w.now) }
         ensures cols { op_cols result ≡ line_size self.now.turned (grid_of w.now) }
-        ensures table { (g k : ℕ) → op_table result g k ≡ line_table self.now.turned self.now.inside (entry (grid_of w.now)) g k }
+        ensures table { (g k : ℕ) → op_table result g k
+            ≡ line_table self.now.turned self.now.inside (entry (grid_of w.now)) g k }
     {
         Oper {
             part: w.as_part(),
@@ -46,15 +47,19 @@ impl<'a> LineSystem<'a> {
         requires line_in { line < line_count self.now.turned (grid_of w.old) }
         requires unknown_in { i < line_size self.now.turned (grid_of w.old) }
         requires residue { value < self.now.reducer }
-        requires residues { (a b : ℕ) → a < w.old.rows → b < w.old.cols → entry (grid_of w.old) a b < self.now.reducer }
+        requires residues { (a b : ℕ) → a < w.old.rows → b < w.old.cols
+            → entry (grid_of w.old) a b < self.now.reducer }
         ensures loan { loan_of w.new ≡ loan_of w.old }
         ensures part { IsPart w.new }
         ensures kept { IsKept w.old w.new }
-        ensures here { IsInLine self.now.turned self.now.inside line i → oriented self.now.turned (entry (grid_of w.new)) line i ≡ value }
-        ensures others { (g k : ℕ) → g < line_count self.now.turned (grid_of w.old) → k < line_size self.now.turned (grid_of w.old)
+        ensures here { IsInLine self.now.turned self.now.inside line i
+            → oriented self.now.turned (entry (grid_of w.new)) line i ≡ value }
+        ensures others { (g k : ℕ) → g < line_count self.now.turned (grid_of w.old)
+            → k < line_size self.now.turned (grid_of w.old)
             → (g ≢ line) ⊎ ((k ≢ i) ⊎ ¬ (IsInLine self.now.turned self.now.inside g k))
             → oriented self.now.turned (entry (grid_of w.new)) g k ≡ oriented self.now.turned (entry (grid_of w.old)) g k }
-        ensures residues { (a b : ℕ) → a < w.old.rows → b < w.old.cols → entry (grid_of w.new) a b < self.now.reducer }
+        ensures residues { (a b : ℕ) → a < w.old.rows → b < w.old.cols
+            → entry (grid_of w.new) a b < self.now.reducer }
     {
         if self.is_inside(line, i) {
             if self.turned {
@@ -71,16 +76,20 @@ impl<'a> LineSystem<'a> {
         requires system { IsFor self.now (grid_of w.old) }
         requires line_in { first + g < line_count self.now.turned (grid_of w.old) }
         requires room { (g + 1) * op_rows self.now.table ≤ length panel.now }
-        requires panel { (k : ℕ) → k < op_rows self.now.table → line_of panel.now (op_rows self.now.table) g k < self.now.reducer }
+        requires panel { (k : ℕ) → k < op_rows self.now.table
+            → line_of panel.now (op_rows self.now.table) g k < self.now.reducer }
         ensures loan { loan_of w.new ≡ loan_of w.old }
         ensures part { IsPart w.new }
         ensures kept { IsKept w.old w.new }
-        ensures here { (k : ℕ) → k < op_rows self.now.table → IsInLine self.now.turned self.now.inside (first + g) k
+        ensures here { (k : ℕ) → k < op_rows self.now.table
+            → IsInLine self.now.turned self.now.inside (first + g) k
             → oriented self.now.turned (entry (grid_of w.new)) (first + g) k ≡ line_of panel.now (op_rows self.now.table) g k }
-        ensures others { (h k : ℕ) → h < line_count self.now.turned (grid_of w.old) → k < op_rows self.now.table
+        ensures others { (h k : ℕ) → h < line_count self.now.turned (grid_of w.old)
+            → k < op_rows self.now.table
             → (h ≢ first + g) ⊎ ¬ (IsInLine self.now.turned self.now.inside h k)
             → oriented self.now.turned (entry (grid_of w.new)) h k ≡ oriented self.now.turned (entry (grid_of w.old)) h k }
-        ensures residues { (a b : ℕ) → a < w.old.rows → b < w.old.cols → entry (grid_of w.new) a b < self.now.reducer }
+        ensures residues { (a b : ℕ) → a < w.old.rows → b < w.old.cols
+            → entry (grid_of w.new) a b < self.now.reducer }
     {
         let _count = self.count(w);
         let n = self.size();
@@ -176,12 +185,15 @@ impl<'a> LineSystem<'a> {
         ensures loan { loan_of w.new ≡ loan_of w.old }
         ensures part { IsPart w.new }
         ensures kept { IsKept w.old w.new }
-        ensures here { (g k : ℕ) → g < lines → k < op_rows self.now.table → IsInLine self.now.turned self.now.inside (first + g) k
+        ensures here { (g k : ℕ) → g < lines → k < op_rows self.now.table
+            → IsInLine self.now.turned self.now.inside (first + g) k
             → oriented self.now.turned (entry (grid_of w.new)) (first + g) k ≡ line_of panel.now (op_rows self.now.table) g k }
-        ensures others { (h k : ℕ) → h < line_count self.now.turned (grid_of w.old) → k < op_rows self.now.table
+        ensures others { (h k : ℕ) → h < line_count self.now.turned (grid_of w.old)
+            → k < op_rows self.now.table
             → (h < first) ⊎ ((first + lines ≤ h) ⊎ ¬ (IsInLine self.now.turned self.now.inside h k))
             → oriented self.now.turned (entry (grid_of w.new)) h k ≡ oriented self.now.turned (entry (grid_of w.old)) h k }
-        ensures residues { (a b : ℕ) → a < w.old.rows → b < w.old.cols → entry (grid_of w.new) a b < self.now.reducer }
+        ensures residues { (a b : ℕ) → a < w.old.rows → b < w.old.cols
+            → entry (grid_of w.new) a b < self.now.reducer }
     {
         if self.turned {
             self.write_by_unknowns(w, first, lines, panel);
@@ -238,7 +250,8 @@ impl<'a> LineSystem<'a> {
         ensures loan { loan_of w.new ≡ loan_of w.old }
         ensures part { IsPart w.new }
         ensures kept { IsKept w.old w.new }
-        ensures solved { AreLinesSolved self.now 0 (line_count self.now.turned (grid_of w.old)) (grid_of w.old) (grid_of w.new) }
+        ensures solved { AreLinesSolved self.now 0 (line_count self.now.turned (grid_of w.old))
+            (grid_of w.old) (grid_of w.new) }
     {
         let all = self.count(w);
         let n = self.size() as usize;
@@ -263,7 +276,8 @@ impl<'a> LineSystem<'a> {
         ensures loan { loan_of w.new ≡ loan_of w.old }
         ensures part { IsPart w.new }
         ensures kept { IsKept w.old w.new }
-        ensures solved { AreLinesSolved self.now 0 (line_count self.now.turned (grid_of w.old)) (grid_of w.old) (grid_of w.new) }
+        ensures solved { AreLinesSolved self.now 0 (line_count self.now.turned (grid_of w.old))
+            (grid_of w.old) (grid_of w.new) }
     {
         let mut room = [0; 2048];
         self.solve_by_panels(w, &mut room);
@@ -278,7 +292,8 @@ impl<'a> LineSystem<'a> {
         ensures loan { loan_of w.new ≡ loan_of w.old }
         ensures part { IsPart w.new }
         ensures kept { IsKept w.old w.new }
-        ensures solved { AreLinesSolved self.now 0 (line_count self.now.turned (grid_of w.old)) (grid_of w.old) (grid_of w.new) }
+        ensures solved { AreLinesSolved self.now 0 (line_count self.now.turned (grid_of w.old))
+            (grid_of w.old) (grid_of w.new) }
     {
         let mut room = [0; 6144];
         self.solve_by_panels(w, &mut room);
@@ -293,7 +308,8 @@ impl<'a> LineSystem<'a> {
         ensures loan { loan_of w.new ≡ loan_of w.old }
         ensures part { IsPart w.new }
         ensures kept { IsKept w.old w.new }
-        ensures solved { AreLinesSolved self.now 0 (line_count self.now.turned (grid_of w.old)) (grid_of w.old) (grid_of w.new) }
+        ensures solved { AreLinesSolved self.now 0 (line_count self.now.turned (grid_of w.old))
+            (grid_of w.old) (grid_of w.new) }
     {
         let mut room = [0; 61440];
         self.solve_by_panels(w, &mut room);
@@ -307,7 +323,8 @@ impl<'a> LineSystem<'a> {
         ensures loan { loan_of w.new ≡ loan_of w.old }
         ensures part { IsPart w.new }
         ensures kept { IsKept w.old w.new }
-        ensures solved { AreLinesSolved self.now 0 (line_count self.now.turned (grid_of w.old)) (grid_of w.old) (grid_of w.new) }
+        ensures solved { AreLinesSolved self.now 0 (line_count self.now.turned (grid_of w.old))
+            (grid_of w.old) (grid_of w.new) }
     {
         match self.size() {
             0..=32 => self.solve_least(w),

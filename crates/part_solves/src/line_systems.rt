@@ -78,9 +78,11 @@ impl<'a> LineSystem<'a> {
 
     /// Whether the unknowns are solved for from the last to the first.
     pub(crate) fn is_descending(&self) -> bool
-        ensures upper { IsTrue result → (structure_of self.now.table.primed self.now.table.structure ≡ Upper)
+        ensures upper { IsTrue result → (structure_of self.now.table.primed self.now.table.structure
+            ≡ Upper)
             ⊎ (structure_of self.now.table.primed self.now.table.structure ≡ UnitUpper) }
-        ensures others { ¬ (IsTrue result) → (structure_of self.now.table.primed self.now.table.structure ≢ Upper)
+        ensures others { ¬ (IsTrue result)
+            → (structure_of self.now.table.primed self.now.table.structure ≢ Upper)
             × (structure_of self.now.table.primed self.now.table.structure ≢ UnitUpper) }
     {
         match self.structure() {
@@ -95,7 +97,9 @@ impl<'a> LineSystem<'a> {
         requires before_end { r < op_rows self.now.table }
         ensures place { order_in self.now.table result.unknown ≡ r }
         ensures equation { IsEquation self.now.table result }
-        ensures span { result ≡ equation_of (structure_of self.now.table.primed self.now.table.structure) (op_rows self.now.table) r }
+        ensures span { result ≡ equation_of
+            (structure_of self.now.table.primed self.now.table.structure)
+            (op_rows self.now.table) r }
     {
         let n = self.size();
         match self.structure() {

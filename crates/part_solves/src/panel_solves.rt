@@ -44,11 +44,13 @@ pub(crate) fn put_unknowns(
     requires sums { (g : ℕ) → g < length sums.now → slice_index sums.now g < system.now.reducer }
     requires residues { (g k : ℕ) → g < length sums.now → k < op_rows system.now.table
         → line_of panel.old (op_rows system.now.table) g k < system.now.reducer }
-    ensures solves { (g : ℕ) → g < length sums.now → IsInLine system.now.turned system.now.inside (first + g) i
+    ensures solves { (g : ℕ) → g < length sums.now
+        → IsInLine system.now.turned system.now.inside (first + g) i
         → (t : ℕ) → (t * inverse) % system.now.reducer ≡ 1
         → Cong system.now.reducer (slice_index sums.now g + t * line_of panel.new (op_rows system.now.table) g i)
         (line_of panel.old (op_rows system.now.table) g i) }
-    ensures skips { (g : ℕ) → g < length sums.now → ¬ (IsInLine system.now.turned system.now.inside (first + g) i)
+    ensures skips { (g : ℕ) → g < length sums.now
+        → ¬ (IsInLine system.now.turned system.now.inside (first + g) i)
         → line_of panel.new (op_rows system.now.table) g i ≡ line_of panel.old (op_rows system.now.table) g i }
     ensures others { (g k : ℕ) → k < op_rows system.now.table → k ≢ i
         → line_of panel.new (op_rows system.now.table) g k ≡ line_of panel.old (op_rows system.now.table) g k }

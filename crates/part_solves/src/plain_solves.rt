@@ -54,10 +54,12 @@ impl<'a> LineSystem<'a> {
             → IsSolvedTo self.now.reducer (op_rows self.now.table) (IsInLine self.now.turned self.now.inside line) (op_table self.now.table)
             (order_in self.now.table) before (line_table self.now.turned self.now.inside (entry (grid_of w.new)) line)
             (order_in self.now.table e.unknown + 1) }
-        ensures others { (h k : ℕ) → h < line_count self.now.turned (grid_of w.old) → k < op_rows self.now.table
+        ensures others { (h k : ℕ) → h < line_count self.now.turned (grid_of w.old)
+            → k < op_rows self.now.table
             → (h ≢ line) ⊎ ¬ (IsInLine self.now.turned self.now.inside h k)
             → oriented self.now.turned (entry (grid_of w.new)) h k ≡ oriented self.now.turned (entry (grid_of w.old)) h k }
-        ensures residues { (a b : ℕ) → a < w.old.rows → b < w.old.cols → entry (grid_of w.new) a b < self.now.reducer }
+        ensures residues { (a b : ℕ) → a < w.old.rows → b < w.old.cols
+            → entry (grid_of w.new) a b < self.now.reducer }
     {
         let sum = self.plain_sum(w, line, e);
         let right = self.lines_of(w).get(line, e.unknown);
@@ -89,7 +91,8 @@ impl<'a> LineSystem<'a> {
         ensures loan { loan_of w.new ≡ loan_of w.old }
         ensures part { IsPart w.new }
         ensures kept { IsKept w.old w.new }
-        ensures solved { AreLinesSolved self.now 0 (line_count self.now.turned (grid_of w.old)) (grid_of w.old) (grid_of w.new) }
+        ensures solved { AreLinesSolved self.now 0 (line_count self.now.turned (grid_of w.old))
+            (grid_of w.old) (grid_of w.new) }
     {
         for line in 0..self.count(w) {
             self.solve_line(w, line);

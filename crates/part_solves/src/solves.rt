@@ -33,7 +33,8 @@ pub fn solve_left(
     requires square { inside ≢ General → w.old.rows ≡ w.old.cols }
     requires rows { op_rows t ≡ w.old.rows }
     requires cols { op_cols t ≡ w.old.rows }
-    requires inverses { IsUnitTriangle t.structure ⊎ HasInverses m w.old.rows (op_table t) inverses }
+    requires inverses { IsUnitTriangle t.structure
+        ⊎ HasInverses m w.old.rows (op_table t) inverses }
     requires residues { AreResidues m (grid_of w.old) }
     requires factor { AreResidues m t.part }
     ensures loan { loan_of w.new ≡ loan_of w.old }
@@ -69,7 +70,8 @@ pub fn solve_right(
     requires square { inside ≢ General → w.old.rows ≡ w.old.cols }
     requires rows { op_rows t ≡ w.old.cols }
     requires cols { op_cols t ≡ w.old.cols }
-    requires inverses { IsUnitTriangle t.structure ⊎ HasInverses m w.old.cols (op_table t) inverses }
+    requires inverses { IsUnitTriangle t.structure
+        ⊎ HasInverses m w.old.cols (op_table t) inverses }
     requires residues { AreResidues m (grid_of w.old) }
     requires factor { AreResidues m t.part }
     ensures loan { loan_of w.new ≡ loan_of w.old }

@@ -58,7 +58,8 @@ impl<'a> SylvesterSystem<'a> {
             (order_in self.now.columns.table row.unknown * op_rows self.now.rows.table + order_in self.now.rows.table col.unknown)
             → IsSylvesterTo self.now before (entry (grid_of w.new))
             (order_in self.now.columns.table row.unknown * op_rows self.now.rows.table + order_in self.now.rows.table col.unknown + 1) }
-        ensures residues { (a b : ℕ) → a < w.old.rows → b < w.old.cols → entry (grid_of w.new) a b < self.now.columns.reducer }
+        ensures residues { (a b : ℕ) → a < w.old.rows → b < w.old.cols
+            → entry (grid_of w.new) a b < self.now.columns.reducer }
     {
         self.rows.has_residues();
         let m = self.columns.reducer;
@@ -83,7 +84,8 @@ impl<'a> SylvesterSystem<'a> {
             → IsSylvesterTo self.now before (entry (grid_of w.old)) (order_in self.now.columns.table row.unknown * op_rows self.now.rows.table)
             → IsSylvesterTo self.now before (entry (grid_of w.new))
             (order_in self.now.columns.table row.unknown * op_rows self.now.rows.table + op_rows self.now.rows.table) }
-        ensures residues { (a b : ℕ) → a < w.old.rows → b < w.old.cols → entry (grid_of w.new) a b < self.now.columns.reducer }
+        ensures residues { (a b : ℕ) → a < w.old.rows → b < w.old.cols
+            → entry (grid_of w.new) a b < self.now.columns.reducer }
     {
         for r in 0..self.rows.size() {
             self.solve_entry(w, row, self.rows.equation_at(r));
@@ -98,7 +100,8 @@ impl<'a> SylvesterSystem<'a> {
         ensures loan { loan_of w.new ≡ loan_of w.old }
         ensures part { IsPart w.new }
         ensures kept { IsKept w.old w.new }
-        ensures solved { AreColumnsSolved self.now 0 (op_rows self.now.rows.table) (grid_of w.old) (grid_of w.new) }
+        ensures solved { AreColumnsSolved self.now 0 (op_rows self.now.rows.table) (grid_of w.old)
+            (grid_of w.new) }
     {
         for r in 0..self.columns.size() {
             self.solve_row(w, self.columns.equation_at(r));
@@ -125,13 +128,15 @@ pub fn solve_sylvester(
     requires left { op_cols t ≡ w.old.rows }
     requires cols { op_cols u ≡ w.old.cols }
     requires right { op_rows u ≡ w.old.cols }
-    requires inverses { HasInversesOfPairs m w.old.rows w.old.cols minus (op_table t) (op_table u) inverses }
+    requires inverses { HasInversesOfPairs m w.old.rows w.old.cols minus (op_table t)
+        (op_table u) inverses }
     requires residues { AreResidues m (grid_of w.old) }
     requires factors { AreResidues m t.part × AreResidues m u.part }
     ensures loan { loan_of w.new ≡ loan_of w.old }
     ensures part { IsPart w.new }
     ensures kept { IsKept w.old w.new }
-    ensures solved { IsSolvedSylvester m minus (op_table t.entry) (op_table u.entry) (grid_of w.old) (grid_of w.new) }
+    ensures solved { IsSolvedSylvester m minus (op_table t.entry) (op_table u.entry) (grid_of w.old)
+        (grid_of w.new) }
 {
     let _modulus = m.value();
     let reducer = Reducer::new(m);

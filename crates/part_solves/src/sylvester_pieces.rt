@@ -90,7 +90,8 @@ impl<'a> SylvesterSystem<'a> {
             → line_of panel.now (op_rows self.now.columns.table) g k < self.now.columns.reducer }
         requires factor { (g k : ℕ) → g < p.lines → k < op_rows self.now.rows.table
             → line_of factor.now (op_rows self.now.rows.table) g k ≡ op_table self.now.rows.table (p.first + g) k }
-        ensures value { result ≡ sum_below (λ k. block_of p.first (op_table self.now.rows.table) e.unknown (e.from + k)
+        ensures value { result ≡ sum_below
+            (λ k. block_of p.first (op_table self.now.rows.table) e.unknown (e.from + k)
             * columns_of panel.now (op_rows self.now.columns.table) i (e.from + k)) e.len % self.now.columns.reducer }
         ensures range { result < self.now.columns.reducer }
     {
@@ -240,7 +241,8 @@ impl<'a> SylvesterSystem<'a> {
             → line_of panel.old (op_rows self.now.columns.table) g k < self.now.columns.reducer }
         requires factor { (g k : ℕ) → g < p.lines → k < op_rows self.now.rows.table
             → line_of factor.now (op_rows self.now.rows.table) g k ≡ op_table self.now.rows.table (p.first + g) k }
-        ensures solved { IsPieceTo self.now p (columns_of panel.old (op_rows self.now.columns.table))
+        ensures solved { IsPieceTo self.now p
+            (columns_of panel.old (op_rows self.now.columns.table))
             (columns_of panel.new (op_rows self.now.columns.table)) (op_rows self.now.columns.table * p.lines) }
         ensures residues { (g k : ℕ) → g < p.lines → k < op_rows self.now.columns.table
             → line_of panel.new (op_rows self.now.columns.table) g k < self.now.columns.reducer }

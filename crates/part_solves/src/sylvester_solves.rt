@@ -21,7 +21,8 @@ fn row_piece<'b>(part: &'b Part<'_>, i: u32, p: Piece) -> &'b [u64]
     requires row_in { i < part.now.rows }
     requires within { p.from + p.len ≤ part.now.cols }
     ensures len { length result.now ≡ p.len }
-    ensures entries { (k : ℕ) → k < p.len → slice_index result.now k ≡ entry part.now i (p.from + k) }
+    ensures entries { (k : ℕ) → k < p.len
+        → slice_index result.now k ≡ entry part.now i (p.from + k) }
 {
     let from = p.from as usize;
     &part.row(i)[from..from + p.len as usize]
@@ -33,7 +34,8 @@ impl<'a> SylvesterSystem<'a> {
         requires ready { IsSylvester self.now }
         requires row_in { i < op_rows self.now.columns.table }
         requires room { length sums.now * op_rows self.now.columns.table ≤ length panel.old }
-        requires sums { (g : ℕ) → g < length sums.now → slice_index sums.now g < self.now.columns.reducer }
+        requires sums { (g : ℕ) → g < length sums.now
+            → slice_index sums.now g < self.now.columns.reducer }
         requires panel { (g k : ℕ) → g < length sums.now → k < op_rows self.now.columns.table
             → line_of panel.old (op_rows self.now.columns.table) g k < self.now.columns.reducer }
         ensures here { (g : ℕ) → g < length sums.now → Cong self.now.columns.reducer
@@ -65,7 +67,8 @@ impl<'a> SylvesterSystem<'a> {
         requires ready { IsSylvester self.now }
         requires part { IsPart w.now }
         requires block { IsSylvesterBlock self.now (grid_of w.now) }
-        requires piece { (p.first + p.lines ≤ op_rows self.now.rows.table) × (p.from + p.len ≤ op_rows self.now.rows.table) }
+        requires piece { (p.first + p.lines ≤ op_rows self.now.rows.table)
+            × (p.from + p.len ≤ op_rows self.now.rows.table) }
         requires few { op_rows self.now.rows.table < 2 ^ 31 }
         requires row_in { i < op_rows self.now.columns.table }
         requires count { length sums.old ≡ p.lines }
@@ -107,7 +110,8 @@ impl<'a> SylvesterSystem<'a> {
         requires ready { IsSylvester self.now }
         requires part { IsPart w.now }
         requires block { IsSylvesterBlock self.now (grid_of w.now) }
-        requires piece { (p.first + p.lines ≤ op_rows self.now.rows.table) × (p.from + p.len ≤ op_rows self.now.rows.table) }
+        requires piece { (p.first + p.lines ≤ op_rows self.now.rows.table)
+            × (p.from + p.len ≤ op_rows self.now.rows.table) }
         requires few { op_rows self.now.rows.table < 2 ^ 31 }
         requires count { length sums.old ≡ p.lines }
         requires room { p.lines * op_rows self.now.columns.table ≤ length panel.old }
@@ -116,7 +120,8 @@ impl<'a> SylvesterSystem<'a> {
             → line_of panel.old (op_rows self.now.columns.table) g k < self.now.columns.reducer }
         requires factor { (g k : ℕ) → g < p.lines → k < op_rows self.now.rows.table
             → line_of factor.now (op_rows self.now.rows.table) g k ≡ op_table self.now.rows.table (p.first + g) k }
-        ensures here { (g i : ℕ) → g < p.lines → i < op_rows self.now.columns.table → Cong self.now.columns.reducer
+        ensures here { (g i : ℕ) → g < p.lines → i < op_rows self.now.columns.table
+            → Cong self.now.columns.reducer
             (line_of panel.new (op_rows self.now.columns.table) g i + sign self.now.columns.reducer self.now.negative
             * sum_below (λ k. entry (grid_of w.now) i (p.from + k) * op_table self.now.rows.table (p.first + g) (p.from + k)) p.len)
             (line_of panel.old (op_rows self.now.columns.table) g i) }
@@ -143,7 +148,8 @@ impl<'a> SylvesterSystem<'a> {
         requires part { IsPart w.old }
         requires block { IsSylvesterBlock self.now (grid_of w.old) }
         requires piece { IsPiece self.now.rows.table p }
-        requires few { (op_rows self.now.columns.table < 2 ^ 31) × (op_rows self.now.rows.table < 2 ^ 31) }
+        requires few { (op_rows self.now.columns.table < 2 ^ 31)
+            × (op_rows self.now.rows.table < 2 ^ 31) }
         requires count { length sums.old ≡ p.lines }
         requires room { p.lines * op_rows self.now.columns.table ≤ length panel.old }
         requires factor_room { p.lines * op_rows self.now.rows.table ≤ length factor.old }
@@ -151,7 +157,8 @@ impl<'a> SylvesterSystem<'a> {
         ensures loan { loan_of w.new ≡ loan_of w.old }
         ensures part { IsPart w.new }
         ensures kept { IsKept w.old w.new }
-        ensures solved { AreColumnsSolved self.now p.len (p.len + p.lines) (grid_of w.old) (grid_of w.new) }
+        ensures solved { AreColumnsSolved self.now p.len (p.len + p.lines) (grid_of w.old)
+            (grid_of w.new) }
     {
         let lines = p.lines as usize;
         let (rows, cols) = (self.columns.size() as usize, self.rows.size() as usize);
@@ -174,7 +181,8 @@ impl<'a> SylvesterSystem<'a> {
         requires ready { IsSylvester self.now }
         requires part { IsPart w.old }
         requires block { IsSylvesterBlock self.now (grid_of w.old) }
-        requires few { (op_rows self.now.columns.table < 2 ^ 31) × (op_rows self.now.rows.table < 2 ^ 31) }
+        requires few { (op_rows self.now.columns.table < 2 ^ 31)
+            × (op_rows self.now.rows.table < 2 ^ 31) }
         requires room { op_rows self.now.columns.table ≤ length panel.old }
         requires factor_room { op_rows self.now.rows.table ≤ length factor.old }
         requires entries { op_rows self.now.columns.table ≤ length line.old }
@@ -182,7 +190,8 @@ impl<'a> SylvesterSystem<'a> {
         ensures loan { loan_of w.new ≡ loan_of w.old }
         ensures part { IsPart w.new }
         ensures kept { IsKept w.old w.new }
-        ensures solved { AreColumnsSolved self.now 0 (op_rows self.now.rows.table) (grid_of w.old) (grid_of w.new) }
+        ensures solved { AreColumnsSolved self.now 0 (op_rows self.now.rows.table) (grid_of w.old)
+            (grid_of w.new) }
     {
         let cols = self.rows.size();
         let most = lines_at_once(panel.len(), self.columns.size() as usize, sums.len());
@@ -201,11 +210,13 @@ impl<'a> SylvesterSystem<'a> {
         requires ready { IsSylvester self.now }
         requires part { IsPart w.old }
         requires block { IsSylvesterBlock self.now (grid_of w.old) }
-        requires few { (op_rows self.now.columns.table ≤ 128) × (op_rows self.now.rows.table ≤ 128) }
+        requires few { (op_rows self.now.columns.table ≤ 128)
+            × (op_rows self.now.rows.table ≤ 128) }
         ensures loan { loan_of w.new ≡ loan_of w.old }
         ensures part { IsPart w.new }
         ensures kept { IsKept w.old w.new }
-        ensures solved { AreColumnsSolved self.now 0 (op_rows self.now.rows.table) (grid_of w.old) (grid_of w.new) }
+        ensures solved { AreColumnsSolved self.now 0 (op_rows self.now.rows.table) (grid_of w.old)
+            (grid_of w.new) }
     {
         let mut panel = [0; 4096];
         let mut factor = [0; 4096];
@@ -219,11 +230,13 @@ impl<'a> SylvesterSystem<'a> {
         requires ready { IsSylvester self.now }
         requires part { IsPart w.old }
         requires block { IsSylvesterBlock self.now (grid_of w.old) }
-        requires few { (op_rows self.now.columns.table ≤ 2048) × (op_rows self.now.rows.table ≤ 2048) }
+        requires few { (op_rows self.now.columns.table ≤ 2048)
+            × (op_rows self.now.rows.table ≤ 2048) }
         ensures loan { loan_of w.new ≡ loan_of w.old }
         ensures part { IsPart w.new }
         ensures kept { IsKept w.old w.new }
-        ensures solved { AreColumnsSolved self.now 0 (op_rows self.now.rows.table) (grid_of w.old) (grid_of w.new) }
+        ensures solved { AreColumnsSolved self.now 0 (op_rows self.now.rows.table) (grid_of w.old)
+            (grid_of w.new) }
     {
         let mut panel = [0; 16384];
         let mut factor = [0; 16384];
@@ -240,7 +253,8 @@ impl<'a> SylvesterSystem<'a> {
         ensures loan { loan_of w.new ≡ loan_of w.old }
         ensures part { IsPart w.new }
         ensures kept { IsKept w.old w.new }
-        ensures solved { AreColumnsSolved self.now 0 (op_rows self.now.rows.table) (grid_of w.old) (grid_of w.new) }
+        ensures solved { AreColumnsSolved self.now 0 (op_rows self.now.rows.table) (grid_of w.old)
+            (grid_of w.new) }
     {
         match u32::max(self.columns.size(), self.rows.size()) {
             0..=128 => self.solve_small(w),

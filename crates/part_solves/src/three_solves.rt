@@ -117,7 +117,8 @@ fn late_sum(m: Reducer, early: u64, row: &[u64], line: &[u64]) -> u64
     requires few { length row.now < 2 ^ 31 }
     requires small_row { (k : ℕ) → k < length row.now → slice_index row.now k < 2 ^ 32 }
     requires small_line { (k : ℕ) → k < length row.now → slice_index line.now k < 2 ^ 32 }
-    ensures value { result ≡ (early + sum_below (λ k. slice_index row.now k * slice_index line.now k)
+    ensures value { result ≡ (early + sum_below
+        (λ k. slice_index row.now k * slice_index line.now k)
         (length row.now)) % m }
     ensures range { result < m }
 {

@@ -45,7 +45,8 @@ fn change_entry(change: &Change, w: &mut PartMut<'_>, i: u32, j: u32, residue: u
     ensures here { IsInside change.now.inside i j
         → entry (grid_of w.new) i j ≡ added change.now.m change.now.minus (entry (grid_of w.old) i j) residue }
     ensures range { entry (grid_of w.new) i j < change.now.m }
-    ensures zero { IsZero change.now.inside i j → entry (grid_of w.new) i j ≡ entry (grid_of w.old) i j }
+    ensures zero { IsZero change.now.inside i j
+        → entry (grid_of w.new) i j ≡ entry (grid_of w.old) i j }
     ensures others { (a b : ℕ) → a < w.old.rows → b < w.old.cols → (a ≢ i) ⊎ (b ≢ j)
         → entry (grid_of w.new) a b ≡ entry (grid_of w.old) a b }
 {
@@ -60,17 +61,22 @@ pub(crate) fn change_row(change: &Change, w: &mut PartMut<'_>, i: u32, from: u32
     requires part { IsPart w.old }
     requires row_in { i < w.old.rows }
     requires within { from + length residues.now ≤ w.old.cols }
-    requires old { (j : ℕ) → j < length residues.now → entry (grid_of w.old) i (from + j) < change.now.m }
-    requires residues { (j : ℕ) → j < length residues.now → slice_index residues.now j < change.now.m }
+    requires old { (j : ℕ) → j < length residues.now
+        → entry (grid_of w.old) i (from + j) < change.now.m }
+    requires residues { (j : ℕ) → j < length residues.now
+        → slice_index residues.now j < change.now.m }
     ensures loan { loan_of w.new ≡ loan_of w.old }
     ensures part { IsPart w.new }
     ensures kept { IsKept w.old w.new }
-    ensures here { (j : ℕ) → j < length residues.now → IsInside change.now.inside i (from + j) → entry (grid_of w.new) i (from + j)
+    ensures here { (j : ℕ) → j < length residues.now → IsInside change.now.inside i (from + j)
+        → entry (grid_of w.new) i (from + j)
         ≡ added change.now.m change.now.minus (entry (grid_of w.old) i (from + j)) (slice_index residues.now j) }
-    ensures range { (j : ℕ) → j < length residues.now → entry (grid_of w.new) i (from + j) < change.now.m }
+    ensures range { (j : ℕ) → j < length residues.now
+        → entry (grid_of w.new) i (from + j) < change.now.m }
     ensures zero { (j : ℕ) → j < length residues.now → IsZero change.now.inside i (from + j)
         → entry (grid_of w.new) i (from + j) ≡ entry (grid_of w.old) i (from + j) }
-    ensures others { (a b : ℕ) → a < w.old.rows → b < w.old.cols → (a ≢ i) ⊎ ((b < from) ⊎ (from + length residues.now ≤ b))
+    ensures others { (a b : ℕ) → a < w.old.rows → b < w.old.cols
+        → (a ≢ i) ⊎ ((b < from) ⊎ (from + length residues.now ≤ b))
         → entry (grid_of w.new) a b ≡ entry (grid_of w.old) a b }
 {
     let _cols = w.cols();

@@ -20,7 +20,8 @@ ghost use Rattle.statement_runs.specs.StatementRuns.{IsReady, IsStatementRun, No
 /// Where all block tasks of a valid operation ran, on the blocks of matrices that it fits, the matrix that has the blocks
 /// of W in the end satisfies the operation's equation.
 pub fn runs_satisfy_equations()
-    ensures { (m b : ℕ) → 2 ≤ m → 0 < b → (op : Operation) → IsValid op → (grids : List Grid) (bind : Binding) (fits : Fits op grids bind)
+    ensures { (m b : ℕ) → 2 ≤ m → 0 < b → (op : Operation) → IsValid op
+        → (grids : List Grid) (bind : Binding) (fits : Fits op grids bind)
         → (counts : List ℕ) → AreCounts b (length op.dims) fits.lengths counts
         → (n : ℕ) (task : ℕ → Task) (did : ℕ → Bool) (known : ℕ → ℕ → Blocks) (w : ℕ → Blocks)
         → IsStatementRun m b op (known_grids grids bind) (nth_grid grids bind.work) counts n task did known w
@@ -32,14 +33,16 @@ pub fn runs_satisfy_equations()
 /// Where no task that ran met a bad pivot, a task that meets one, behind all that it needs, meets the first bad pivot of
 /// the statement. Where all tasks ran, a form that finds factors of W has no bad pivot.
 pub fn runs_fail_at_the_first_bad_pivot()
-    ensures fails { (m b : ℕ) → 2 ≤ m → 0 < b → (op : Operation) → IsValid op → (grids : List Grid) (bind : Binding) (fits : Fits op grids bind)
+    ensures fails { (m b : ℕ) → 2 ≤ m → 0 < b → (op : Operation) → IsValid op
+        → (grids : List Grid) (bind : Binding) (fits : Fits op grids bind)
         → (counts : List ℕ) → AreCounts b (length op.dims) fits.lengths counts
         → (n : ℕ) (task : ℕ → Task) (did : ℕ → Bool) (known : ℕ → ℕ → Blocks) (w : ℕ → Blocks)
         → IsStatementRun m b op (known_grids grids bind) (nth_grid grids bind.work) counts n task did known w
         → AreResidues m (nth_grid grids bind.work) → NoneBad m b op n task did w
         → (f : ℕ) → f < n → (place : Place) → IsReady op n task did f → IsBadTask m b op (w f) (task f) place
         → IsFirstBadPivot m op (known_grids grids bind) (nth_grid grids bind.work) place }
-    ensures none { (m b : ℕ) → 2 ≤ m → 0 < b → (op : Operation) → IsValid op → (grids : List Grid) (bind : Binding) (fits : Fits op grids bind)
+    ensures none { (m b : ℕ) → 2 ≤ m → 0 < b → (op : Operation) → IsValid op
+        → (grids : List Grid) (bind : Binding) (fits : Fits op grids bind)
         → (counts : List ℕ) → AreCounts b (length op.dims) fits.lengths counts
         → (n : ℕ) (task : ℕ → Task) (did : ℕ → Bool) (known : ℕ → ℕ → Blocks) (w : ℕ → Blocks)
         → IsStatementRun m b op (known_grids grids bind) (nth_grid grids bind.work) counts n task did known w

@@ -21,9 +21,11 @@ ghost use Rattle.step_replays.specs.Replays.{value, writes_before, written};
 /// The replay of steps that fit a valid job does what the job means, in whatever order they fit: where no step failed, it
 /// leaves the matrices that the job means; else the failed step of the least statement is the job's first bad pivot.
 pub fn replays_do_what_jobs_mean()
-    ensures done { (job : Job) (b : ℕ) (steps : List Step) (results : List StepResult) → IsJob job → 0 < b → FitsJob job b steps
+    ensures done { (job : Job) (b : ℕ) (steps : List Step) (results : List StepResult) → IsJob job
+        → 0 < b → FitsJob job b steps
         → IsReplay job b steps results → IsDone steps results → Means job (matrices_after job b steps results (length steps)) }
-    ensures failed { (job : Job) (b : ℕ) (steps : List Step) (results : List StepResult) → IsJob job → 0 < b → FitsJob job b steps
+    ensures failed { (job : Job) (b : ℕ) (steps : List Step) (results : List StepResult) → IsJob job
+        → 0 < b → FitsJob job b steps
         → IsReplay job b steps results → (number : ℕ) (place : Place) → IsFailure steps results number place
         → MeansBadPivot job number place }
 {}
@@ -34,9 +36,11 @@ pub fn replays_do_what_jobs_mean()
 pub fn values_follow_the_writes()
     ensures first { (job : Job) (b : ℕ) (steps : List Step) (results : List StepResult) (x : ℕ)
         → value job b steps results x 0 ≡ first_block job b x }
-    ensures found { (job : Job) (b : ℕ) (steps : List Step) (results : List StepResult) (s x : ℕ) → s ≤ length steps
+    ensures found { (job : Job) (b : ℕ) (steps : List Step) (results : List StepResult) (s x : ℕ)
+        → s ≤ length steps
         → value job b steps results x (writes_before job b steps results s x) ≡ block_after job b steps results s x }
-    ensures next { (job : Job) (b : ℕ) (steps : List Step) (results : List StepResult) (s : ℕ) → s < length steps
+    ensures next { (job : Job) (b : ℕ) (steps : List Step) (results : List StepResult) (s : ℕ)
+        → s < length steps
         → value job b steps results (nth_step steps s).access.write (suc (writes_before job b steps results s (nth_step steps s).access.write))
         ≡ written (nth_result results s)
         (value job b steps results (nth_step steps s).access.write (writes_before job b steps results s (nth_step steps s).access.write)) }
@@ -44,23 +48,27 @@ pub fn values_follow_the_writes()
 
 /// A step is skipped exactly where a direct edge goes into it from a step that failed or was skipped.
 pub fn steps_are_skipped_by_edges()
-    ensures skips { (job : Job) (b : ℕ) (steps : List Step) (results : List StepResult) → IsReplay job b steps results
+    ensures skips { (job : Job) (b : ℕ) (steps : List Step) (results : List StepResult)
+        → IsReplay job b steps results
         → (q s : ℕ) → s < length steps → IsStop (nth_result results q) → IsDirectEdge (nth_access steps) q s
         → nth_result results s ≡ Skipped }
-    ensures edge { (job : Job) (b : ℕ) (steps : List Step) (results : List StepResult) → IsReplay job b steps results
+    ensures edge { (job : Job) (b : ℕ) (steps : List Step) (results : List StepResult)
+        → IsReplay job b steps results
         → (s : ℕ) → s < length steps → nth_result results s ≡ Skipped
         → (q : ℕ) × IsStop (nth_result results q) × IsDirectEdge (nth_access steps) q s }
 {}
 
 /// The counts of a valid operation that fits matrices are those of the lengths that its dimensions have over them.
 pub fn counts_are_those_of_the_lengths()
-    ensures { (b : ℕ) (op : Operation) → IsValid op → (grids : List Grid) (bind : Binding) (fits : Fits op grids bind)
+    ensures { (b : ℕ) (op : Operation) → IsValid op
+        → (grids : List Grid) (bind : Binding) (fits : Fits op grids bind)
         → AreCounts b (length op.dims) fits.lengths (counts_by b op grids bind) }
 {}
 
 /// Some job has steps that fit it, and a replay of them, with a step that failed.
 pub fn some_steps_fit_a_job()
-    ensures { (job : Job) × (steps : List Step) × (results : List StepResult) × (length steps ≡ 5) × FitsJob job 1 steps
+    ensures { (job : Job) × (steps : List Step) × (results : List StepResult) × (length steps ≡ 5)
+        × FitsJob job 1 steps
         × IsReplay job 1 steps results × ((place : Place) × IsFailure steps results 1 place) }
 {}
 

@@ -42,7 +42,8 @@ impl Marks {
     pub fn mark(&mut self, access: &Access)
         requires write { access.now.write < length self.old.written.items }
         requires reads { All (λ x. x < length self.old.read.items) access.now.reads }
-        ensures written { self.new.written.items ≡ slice_set self.old.written.items access.now.write true }
+        ensures written { self.new.written.items
+            ≡ slice_set self.old.written.items access.now.write true }
         ensures read { self.new.read.items ≡ all_marked access.now.reads self.old.read.items }
     {
         self.written[access.write as usize] = true;
