@@ -9,7 +9,7 @@ use Rattle.schedule_core.specs.Schedules.{IsEventOf, IsSchedule, event_step, has
 use Rattle.block_store.specs.declared.key.BoardKey.{BoardKey}
 use Rattle.block_store.specs.declared.view.View.{View}
 use Rattle.block_store.specs.Keys.{step_count, IsStep}
-use Rattle.block_store.specs.Stamps.{HasStamp, AreByStamps}
+use Rattle.block_store.specs.Stamps.{HasStamp, HaveStamps, AreByStamps}
 use Rattle.block_store.specs.Tallies.{start, finish}
 use Rattle.block_store.specs.Plays.{IsWhole}
 use Rattle.block_store.proofs.Edges.{edge-steps}
@@ -18,7 +18,7 @@ use Rattle.block_store.proofs.EventPlaces.{get-here, get-before, get-has, get-so
 use Rattle.block_store.proofs.Forward.{conflicts-forward}
 
 module _ (key : BoardKey) (v : View) (events : List Event) (whole : IsWhole key (2 * step_count key) v)
-    (long : length events ≡ 2 * step_count key) (by : AreByStamps v.facts events) where
+    (long : length events ≡ 2 * step_count key) (by : HaveStamps v.facts events) where
   abbrev n : ℕ
   n = 2 * step_count key
 
@@ -26,12 +26,19 @@ module _ (key : BoardKey) (v : View) (events : List Event) (whole : IsWhole key 
   event-step m (Start t) h = begun-step key n v whole t (has-begun key n v whole t m h)
   event-step m (Finish t) h = begun-step key n v whole t (ended-begun key n v whole t (has-ended key n v whole t m h.0 h.1))
 
+  -- each event stands at its stamp
+  placed : (m : ℕ) (e : Event) → HasStamp v.facts m e → slice_get events m ≡ Some e
+  placed m e has =
+      let got = get-some events m (omega (arith, long, stamp-low key n v whole m e has)) in got.1 ∙ ap Some (one-event key n v whole m got.0 e (by m got.0 got.1) has)
+
+  pub by_stamps : AreByStamps v.facts events
+  by_stamps = record { stamped = by; placed = placed }
+
   -- each event of a step stands somewhere
   place : (e : Event) → IsEventOf (step_count key) e → (i : ℕ) × (slice_get events i ≡ Some e)
   place e of =
       let m = some-stamp key n v whole refl e (λ t is. subst (λ x. IsStep key (event_step x)) is of) (λ t is. subst (λ x. IsStep key (event_step x)) is of) in
-      let got = get-some events m.0 (omega (arith, long, stamp-low key n v whole m.0 e m.1)) in
-      (m.0, got.1 ∙ ap Some (one-event key n v whole m.0 got.0 e (by m.0 got.0 got.1) m.1))
+      (m.0, placed m.0 e m.1)
 
   starts-at : (t i : ℕ) → slice_get events i ≡ Some (Start t) → start (v ∷ []) t ≡ i
   starts-at t i at = start-is key n v whole t i (by i (Start t) at)

@@ -12,6 +12,11 @@ abbrev pub HasStamp : List Fact → ℕ → Event → Type 0
 HasStamp facts n (Start t) = In (Began t n) facts
 HasStamp facts n (Finish t) = (o : StepOutcome) × In (Ended t n o) facts
 
--- each event stands at the place that is its stamp
-abbrev pub AreByStamps : List Fact → List Event → Type 0
-AreByStamps facts events = (n : ℕ) (e : Event) → slice_get events n ≡ Some e → HasStamp facts n e
+-- at each place of the events stands one that has this place as its stamp
+abbrev pub HaveStamps : List Fact → List Event → Type 0
+HaveStamps facts events = (n : ℕ) (e : Event) → slice_get events n ≡ Some e → HasStamp facts n e
+
+-- and each event of the facts stands at the place that is its stamp
+pub record AreByStamps (facts : List Fact) (events : List Event) : Type 0 where
+  pub stamped : HaveStamps facts events
+  pub placed : (n : ℕ) (e : Event) → HasStamp facts n e → slice_get events n ≡ Some e

@@ -17,17 +17,20 @@ ghost use Rattle.block_store.specs.Holding.{HaveLast};
 ghost use Rattle.block_store.specs.Keys.{step_count, IsReplayOf, IsStep};
 ghost use Rattle.block_store.specs.Parts.{part_of};
 ghost use Rattle.block_store.specs.Plays.{IsWhole};
-ghost use Rattle.block_store.specs.Stamps.{AreByStamps, HasStamp};
+ghost use Rattle.block_store.specs.Stamps.{AreByStamps, HasStamp, HaveStamps};
 
 /// Where a view stands for all workers and the clock is twice the number of steps, each number below that is the stamp of an event,
-/// and the events by their stamps are a schedule of the steps.
+/// and events of which each stands at its stamp are a schedule of the steps, and have each event of the view.
 pub fn stamps_are_a_schedule()
     ensures stamps { (key : BoardKey) (v : View) → IsWhole key (2 * step_count key) v → (n : ℕ)
         → n < 2 * step_count key → (e : Event) × HasStamp v.facts n e }
     ensures schedule { (key : BoardKey) (v : View) (events : List Event)
         → IsWhole key (2 * step_count key) v → length events ≡ 2 * step_count key
-        → AreByStamps v.facts events
+        → HaveStamps v.facts events
         → IsSchedule (step_access key.steps.value) (step_count key) events }
+    ensures placed { (key : BoardKey) (v : View) (events : List Event)
+        → IsWhole key (2 * step_count key) v → length events ≡ 2 * step_count key
+        → HaveStamps v.facts events → AreByStamps v.facts events }
 {}
 
 /// What a step of a replay finds and leaves, by the blocks after the steps: it finds each block as the steps before it leave it, and

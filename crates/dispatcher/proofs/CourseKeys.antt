@@ -1,15 +1,15 @@
 -- What a course and the key of its board have in common.
-use Rattle.std.proofs.Common.{◌≡◌, ◌<◌, ℕ, List, Some, length, slice_get, subst, sym, ap, ◌∙◌}
+use Rattle.std.proofs.Common.{◌≡◌, ◌<◌, ℕ, List, Some, length, slice_get, subst, sym, ap, ◌∙◌, arith}
 use Rattle.dependence_queue.specs.declared.edge.Edge.{Edge}
 use Rattle.dependence_queue.specs.Edges.{edges_of, successors}
 use Rattle.step_replays.specs.declared.step.Step.{Step}
 use Rattle.schedule_core.specs.StepAccesses.{accesses_of}
-use Rattle.block_store.specs.Keys.{accesses, edge, step_count}
+use Rattle.block_store.specs.Keys.{accesses, edge, most_steps, step_count}
 use Rattle.block_store.specs.Seats.{key_of}
 use Rattle.ready_queue.specs.Queues.{steps_of}
 use Rattle.dispatcher.specs.declared.course.Course.{Course}
 use Rattle.dispatcher.specs.Courses.{IsCourse}
-use Rattle.dispatcher.proofs.Successors.{key-apart, key-successor}
+use Rattle.dispatcher.proofs.Successors.{key-apart, key-listed, key-place, key-successor}
 
 module _ (c : Course) (course : IsCourse c) where
   -- the steps
@@ -29,3 +29,12 @@ module _ (c : Course) (course : IsCourse c) where
   pub course-apart : (t j l a : ℕ) → slice_get (successors c.edges.now t) j ≡ Some a → slice_get (successors c.edges.now t) l ≡ Some a → j ≡ l
   course-apart t j l a here there = key-apart (key_of c.board.now) t j l a (subst (λ (es : List Edge). slice_get (successors es t) j ≡ Some a) key-edges here)
       (subst (λ (es : List Edge). slice_get (successors es t) l ≡ Some a) key-edges there)
+
+  pub course-listed : (t a : ℕ) → 0 < edge (key_of c.board.now) t a → (j : ℕ) × (slice_get (successors c.edges.now t) j ≡ Some a)
+  course-listed t a is =
+      let j = key-listed (key_of c.board.now) t a is in (j.0, ap (λ (es : List Edge). slice_get (successors es t) j.0) key-edges ∙ j.1)
+
+  -- there are no more of them than steps
+  pub course-place : (t j a : ℕ) → slice_get (successors c.edges.now t) j ≡ Some a → j < most_steps
+  course-place t j a at =
+      let low = key-place (key_of c.board.now) t j a (subst (λ (es : List Edge). slice_get (successors es t) j ≡ Some a) key-edges at) in omega (arith, low, course-count, course.few)

@@ -8,7 +8,8 @@ use Rattle.block_store.specs.declared.key.BoardKey.{BoardKey}
 use Rattle.block_store.specs.declared.view.View.{View}
 use Rattle.block_store.specs.Keys.{step_count}
 use Rattle.block_store.specs.Plays.{IsWhole}
-use Rattle.block_store.proofs.ByStamps.{a_schedule}
+use Rattle.block_store.specs.Stamps.{AreByStamps}
+use Rattle.block_store.proofs.ByStamps.{a_schedule, by_stamps}
 use Rattle.block_store.proofs.Ending.{each-stamp}
 use Rattle.dispatcher.specs.Workers.{IsCovered}
 
@@ -21,3 +22,7 @@ module _ (key : BoardKey) (v : View) (log : List (Option Event)) (whole : IsWhol
       → ((n : ℕ) (e : Event) → slice_get schedule n ≡ Some e → slice_get log n ≡ Some (Some e)) → IsSchedule (step_access steps) (length steps) schedule
   run-schedule steps schedule are long each =
       subst (λ (xs : List Step). IsSchedule (step_access xs) (length xs) schedule) are (a_schedule key v schedule whole long (λ n e at. covered.sound n e (each n e at)))
+
+  pub run-stamps : (schedule : List Event) → length schedule ≡ 2 * step_count key
+      → ((n : ℕ) (e : Event) → slice_get schedule n ≡ Some e → slice_get log n ≡ Some (Some e)) → AreByStamps v.facts schedule
+  run-stamps schedule long each = by_stamps key v schedule whole long (λ n e at. covered.sound n e (each n e at))

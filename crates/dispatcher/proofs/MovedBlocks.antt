@@ -46,5 +46,11 @@ module _ (t : ℕ) (v w : View) (moved : HasMovedBlocks t v w) where
     marks = λ next. omega (arith, none.marks next, same-weigh (mark_of u next) (λ x. refl) (λ x. refl) (λ x. refl) (λ s x. refl));
   }
 
+  moved-last : (x : ℕ) → weigh (last_of x) w.facts ≡ weigh (last_of x) v.facts
+  moved-last x = same-weigh (last_of x) (λ y. refl) (λ y. refl) (λ y. refl) (λ s y. refl)
+
   pub moved-tied : (key : BoardKey) (hand : Hand) → AreTied key hand v → AreTied key hand w
-  moved-tied key hand tied x = omega (arith, tied x, same-weigh (last_of x) (λ y. refl) (λ y. refl) (λ y. refl) (λ s y. refl))
+  moved-tied key hand tied = record {
+    all = λ x. omega (arith, tied.all x, moved-last x);
+    only = λ x. omega (arith, tied.only x, moved-last x);
+  }

@@ -13,7 +13,7 @@ use Rattle.block_store.specs.Keys.{step_count}
 use Rattle.block_store.specs.Seats.{key_of, seats_for, view, AreFirstSeats, IsNewSeat}
 use Rattle.block_store.specs.Stamps.{HasStamp}
 use Rattle.block_store.specs.Sums.{below}
-use Rattle.block_store.specs.Tallies.{count_in, gave_of, took_of, weigh}
+use Rattle.block_store.specs.Tallies.{count_in, gave_of, last_of, took_of, weigh}
 use Rattle.block_store.specs.Views.{numbers}
 use Rattle.block_store.proofs.NewSeats.{for-push}
 use Rattle.block_store.proofs.Sums.{below-ge, below-more}
@@ -58,7 +58,10 @@ module _ (board : Board) (ready : Ready) (w : Worker) (n : ℕ) where
       empty = seat.empty;
       free = λ x. ap (weigh (gave_of x)) seat.facts ∙ sym (ap (weigh (took_of x)) seat.facts);
       pass = pass.of;
-      tied = λ x. let none : times x (queues.view w.pass).pushed ≡ 0 = ap (times x) pass.pushed in omega arith;
+      tied = record {
+        all = λ x. omega (arith, ap (weigh (last_of x)) seat.facts);
+        only = λ x. let none : times x (queues.view w.pass).pushed ≡ 0 = ap (times x) pass.pushed in omega arith;
+      };
       desk = desk;
       long = ap length log ∙ length-replicate n None ∙ many;
       logged = empty-log w.log.items n (view w.seat).facts log seat.facts;

@@ -1,15 +1,15 @@
 -- The steps to which edges go from a step, by their places.
-use Rattle.std.proofs.Common.{◌≡◌, ℕ, zero, suc, ◌<◌, inl, inr, true, List, [], ◌∷◌, slice_get, Some, refl, ap, arith}
+use Rattle.std.proofs.Common.{◌≡◌, ℕ, zero, suc, ◌+◌, ◌<◌, ◌≤◌, inl, inr, true, List, [], ◌∷◌, length, slice_get, Some, refl, ap, arith}
 use Rattle.std.specs.Prelude.{All, AllPairs, ◌==◌, ◌&&◌}
-use Rattle.std.proofs.lemmas.Bool.{and_from, cases_Bool, eq-eqb, eqb-true, or_left, or_right}
-use Rattle.std.proofs.lemmas.List.Elements.{All-head, All-tail}
+use Rattle.std.proofs.lemmas.Bool.{and_from, and_parts, cases_Bool, eq-eqb, eqb-true, false≢true, or_cases, or_left, or_right}
+use Rattle.std.proofs.lemmas.List.Elements.{All-head, All-tail, All-weaker}
 use Rattle.std.proofs.lemmas.Option.{same_Some}
 use Rattle.dependence_queue.specs.declared.edge.Edge.{Edge}
 use Rattle.dependence_queue.specs.Edges.{IsOrdered, edges_of, has_edge, successors}
-use Rattle.dependence_queue.proofs.ListedEdges.{sorted}
+use Rattle.dependence_queue.proofs.ListedEdges.{sorted, All-steps}
 use Rattle.block_store.specs.declared.key.BoardKey.{BoardKey}
-use Rattle.block_store.specs.Keys.{accesses, edge}
-use Rattle.block_store.proofs.Edges.{listed-edge}
+use Rattle.block_store.specs.Keys.{accesses, edge, step_count}
+use Rattle.block_store.proofs.Edges.{edge-listed, edge-steps, listed-edge}
 
 -- ---- an edge goes to each of them
 
@@ -82,3 +82,49 @@ apart (e ∷ edges) s k l a sorted_all here there =
 pub key-apart : (key : BoardKey) (t k l a : ℕ) → slice_get (successors (edges_of (accesses key)) t) k ≡ Some a
     → slice_get (successors (edges_of (accesses key)) t) l ≡ Some a → k ≡ l
 key-apart key t k l a here there = apart (edges_of (accesses key)) t k l a (sorted (accesses key)) here there
+
+-- ---- they are all to which an edge goes
+
+had-successor : (edges : List Edge) (s a : ℕ) → has_edge edges s a ≡ true → (k : ℕ) × (slice_get (successors edges s) k ≡ Some a)
+had-successor [] s a had = absurd (false≢true had)
+had-successor (e ∷ edges) s a had = elim (or_cases ((e.from == s) && (e.to == a)) (has_edge edges s a) had) [
+  | inl this ↦
+      let is = and_parts (e.from == s) (e.to == a) this in
+      rw is.0 (0, ap Some (eqb-true e.to a is.1))
+  | inr later ↦
+      let k = had-successor edges s a later in
+      elim (cases_Bool (e.from == s)) [
+        | inl own ↦ rw own (suc k.0, k.1)
+        | inr other ↦ rw other k
+      ]
+]
+
+pub key-listed : (key : BoardKey) (t a : ℕ) → 0 < edge key t a → (k : ℕ) × (slice_get (successors (edges_of (accesses key)) t) k ≡ Some a)
+key-listed key t a is = had-successor (edges_of (accesses key)) t a (edge-listed key t a is)
+
+-- ---- the place of one is less than its number, so there are no more of them than steps
+
+place-low : (edges : List Edge) (s b k a : ℕ) → AllPairs IsOrdered edges → All (λ (d : Edge). d.from ≡ s → b < d.to) edges
+    → slice_get (successors edges s) k ≡ Some a → b + k < a
+place-low [] s b k a sorted_all all at = absurd cc
+place-low (e ∷ edges) s b k a sorted_all all at =
+    let tail : AllPairs IsOrdered edges = tail-sorted e edges sorted_all in
+    let first = All-head (λ (d : Edge). d.from ≡ s → b < d.to) e edges all in
+    elim (cases_Bool (e.from == s)) [
+      | inl own ↦
+          let from : e.from ≡ s = eqb-true e.from s own in
+          own-low e.to b k a (successors edges s) (first from) (λ j. place-low edges s e.to j a tail (behind e edges s from sorted_all)) (rw own at at)
+      | inr other ↦ place-low edges s b k a tail (All-tail (λ (d : Edge). d.from ≡ s → b < d.to) e edges all) (rw other at at)
+    ]
+  where
+    own-low : (to b k a : ℕ) (row : List ℕ) → b < to → ((j : ℕ) → slice_get row j ≡ Some a → to + j < a) → slice_get (to ∷ row) k ≡ Some a → b + k < a
+    own-low to b zero a row low rest at = omega (arith, low, same_Some to a at)
+    own-low to b (suc k) a row low rest at = omega (arith, low, rest k at)
+
+pub key-place : (key : BoardKey) (t k a : ℕ) → slice_get (successors (edges_of (accesses key)) t) k ≡ Some a → k < step_count key
+key-place key t k a at =
+    let edges = edges_of (accesses key) in
+    let upward : All (λ (d : Edge). d.from ≡ t → 0 < d.to) edges
+    = All-weaker (λ (d : Edge). (0 < d.from) × (d.from < d.to) × (d.to ≤ length (accesses key))) (λ (d : Edge). d.from ≡ t → 0 < d.to)
+    (λ d steps from. omega (arith, steps.0, steps.1)) edges (All-steps (accesses key)) in
+    omega (arith, place-low edges t 0 k a (sorted (accesses key)) upward at, (edge-steps key t a (key-successor key t k a at)).1.1)

@@ -1,7 +1,8 @@
 -- What stays while the steps behind one that has ended are told.
-use Rattle.std.proofs.Common.{◌≡◌, ◌≢◌, ℕ, ◌+◌, ◌<◌, ◌≤◌, ◌⊎◌, inl, inr, Bool, true, false, List, [], ◌∷◌, slice_get, Some, refl, sym, ap, ◌∙◌, arith}
+use Rattle.std.proofs.Common.{◌≡◌, ◌≢◌, ℕ, zero, suc, ◌+◌, ◌<◌, ◌≤◌, ◌⊎◌, inl, inr, Bool, true, false, List, [], ◌∷◌, slice_get, Some, None, refl, sym, ap, ◌∙◌, subst, arith}
 use Rattle.std.proofs.lemmas.Bool.{cases_eq, eq-eqb, ne_eqb}
 use Rattle.std.proofs.lemmas.List.Elements.{All-cons, All-nil}
+use Rattle.std.proofs.lemmas.Option.{same_Some}
 use Rattle.block_store.specs.declared.key.BoardKey.{BoardKey}
 use Rattle.block_store.specs.declared.outcome.StepOutcome.{StepOutcome}
 use Rattle.block_store.specs.declared.outcome.StepOutcome.TheVariants.{Ran, Skipped, Failed}
@@ -11,13 +12,13 @@ use Rattle.block_store.specs.declared.view.View.{View}
 use Rattle.block_store.specs.Keys.{edge, is_bad, preds, step_count}
 use Rattle.block_store.specs.Plays.{MayNotify, NoLast, NotHolds, NotMarked, NotNoticed}
 use Rattle.block_store.specs.Sums.{same_pair}
-use Rattle.block_store.specs.Tallies.{gave_of, last_of, took_of, weigh}
+use Rattle.block_store.specs.Tallies.{gave_of, last_of, notice_of, took_of, weigh}
 use Rattle.block_store.specs.Views.{learned}
-use Rattle.block_store.proofs.Sums.{same-eq, same_pair-eq, same_pair-right, sum_below-at}
+use Rattle.block_store.proofs.Sums.{same-eq, same_pair-eq, same_pair-left, same_pair-right, sum_below-at}
 use Rattle.block_store.proofs.Edges.{edge-steps}
 use Rattle.ready_queue.specs.declared.hand.Hand.{Hand}
 use Rattle.ready_queue.specs.Hands.{after_push, same, times}
-use Rattle.dispatcher.specs.Telling.{HasEndedAs, HasTold, HasToldNone, AreTied, IsTellingFact, marked_view, root, told_view}
+use Rattle.dispatcher.specs.Telling.{HasEndedAs, HasTold, HasToldAll, HasToldNone, AreTied, IsTellingFact, marked_view, root, told_view}
 use Rattle.dispatcher.proofs.QuietFacts.{HaveSameEvents, IsNoEvent, more-weigh, quiet-events}
 
 -- ---- the view once a pair is marked, where it has to be, and once it is told
@@ -59,6 +60,37 @@ untold-next b t next left k v row apart here untold j a behind at =
 
 pub untold-all : (t : ℕ) (v : View) (row : List ℕ) → HasToldNone t v → AreUntold t v row 0
 untold-all t v row none j a behind at = (none.notices a, none.marks a)
+
+-- each step in this row below place k is told
+abbrev pub AreTold : ℕ → View → List ℕ → ℕ → Type 0
+AreTold t v row k = (j a : ℕ) → j < k → slice_get row j ≡ Some a → 0 < weigh (notice_of t a) v.facts
+
+noticed-now : (b : Bool) (t next left : ℕ) (v : View) → 0 < weigh (notice_of t next) (told_view b t next left v).facts
+noticed-now true t next left v = omega (arith, same_pair-eq t next t next refl refl)
+noticed-now false t next left v = omega (arith, same_pair-eq t next t next refl refl)
+
+noticed-stay : (b : Bool) (t next left u : ℕ) (v : View) → 0 < weigh (notice_of t u) v.facts → 0 < weigh (notice_of t u) (told_view b t next left v).facts
+noticed-stay true t next left u v told = omega (arith, told)
+noticed-stay false t next left u v told = omega (arith, told)
+
+pub told-next : (b : Bool) (t next left k : ℕ) (v : View) (row : List ℕ) → slice_get row k ≡ Some next → AreTold t v row k → AreTold t (told_view b t next left v) row (k + 1)
+told-next b t next left k v row here told j a below at = elim (cases_eq j k) [
+  | inl same ↦
+      let is : next ≡ a = same_Some next a (sym here ∙ (ap (λ i. slice_get row i) (sym same) ∙ at)) in
+      subst (λ u. 0 < weigh (notice_of t u) (told_view b t next left v).facts) is (noticed-now b t next left v)
+  | inr other ↦ noticed-stay b t next left a v (told j a (omega (arith, below)) at)
+]
+
+-- and where the row has all steps behind t, and ends there, all are told
+pub told-all : (key : BoardKey) (t k : ℕ) (v : View) (row : List ℕ) → ((next : ℕ) → 0 < edge key t next → (j : ℕ) × (slice_get row j ≡ Some next))
+    → slice_get row k ≡ None → AreTold t v row k → HasToldAll key t v
+told-all key t k v row listed none told next is = let j = listed next is in told j.0 next (before-none row k j.0 next none j.1) j.1
+  where
+    before-none : (row : List ℕ) (k j a : ℕ) → slice_get row k ≡ None → slice_get row j ≡ Some a → j < k
+    before-none [] k j a none at = absurd (let past : None ≡ Some a = at in cc)
+    before-none (b ∷ row) zero j a none at = absurd (let past : Some b ≡ None = none in cc)
+    before-none (b ∷ row) (suc k) zero a none at = omega arith
+    before-none (b ∷ row) (suc k) (suc j) a none at = omega (arith, before-none row k j a none at)
 
 -- ---- nothing else was done
 
@@ -119,26 +151,34 @@ no-root key t next is =
     let heavy : preds key next ≢ 0 = λ none. omega arith in
     rw (ne_eqb (preds key next) 0 heavy) refl
 
-pub tied-told : (key : BoardKey) (bad : Bool) (t next left : ℕ) (hand : Hand) (v : View) → AreTied key hand v → AreTied key hand (told_view bad t next left v)
-tied-told key bad t next left hand v tied x = omega (arith, tied x, marked-last bad t next x v)
+pub tied-told : (key : BoardKey) (bad : Bool) (t next left : ℕ) (hand : Hand) (v : View) → left ≢ 0 → AreTied key hand v → AreTied key hand (told_view bad t next left v)
+tied-told key bad t next left hand v some tied = record {
+  all = λ x. omega (arith, tied.all x, marked-last bad t next x v, same_pair-right next left x 0 some);
+  only = λ x. omega (arith, tied.only x, marked-last bad t next x v);
+}
 
 pub not-pushed : (key : BoardKey) (bad : Bool) (t next : ℕ) (hand : Hand) (v : View) → AreTied key hand v → 0 < edge key t next → NoLast next (marked_view bad t next v)
     → times next hand.pushed ≡ 0
-not-pushed key bad t next hand v tied is none = omega (arith, tied next, marked-last bad t next next v, no-root key t next is)
+not-pushed key bad t next hand v tied is none = omega (arith, tied.only next, marked-last bad t next next v, no-root key t next is)
 
 pub tied-pushed : (key : BoardKey) (bad : Bool) (t next : ℕ) (hand : Hand) (v : View) → AreTied key hand v → 0 < edge key t next → NoLast next (marked_view bad t next v)
     → AreTied key (after_push next hand) (told_view bad t next 0 v)
-tied-pushed key bad t next hand v tied is none x = go (cases_eq x next)
+tied-pushed key bad t next hand v tied is none = record { all = λ x. all x (cases_eq x next); only = λ x. only x (cases_eq x next) }
   where
-    go : (x ≡ next) ⊎ (x ≢ next) → same next x + times x hand.pushed ≤ (same_pair next 0 x 0 + weigh (last_of x) (marked_view bad t next v).facts) + root key x
-    go (inl e) = omega (
+    -- the number that is pushed, and any other one
+    all : (x : ℕ) → (x ≡ next) ⊎ (x ≢ next) → same_pair next 0 x 0 + weigh (last_of x) (marked_view bad t next v).facts ≤ same next x + times x hand.pushed
+    all x (inl e) = omega (arith, same-is next x (sym e), same_pair-eq next 0 x 0 (sym e) refl, tied.all x, marked-last bad t next x v)
+    all x (inr other) = omega (arith, same_pair-left next 0 x 0 (λ e. other (sym e)), tied.all x, marked-last bad t next x v)
+
+    only : (x : ℕ) → (x ≡ next) ⊎ (x ≢ next) → same next x + times x hand.pushed ≤ (same_pair next 0 x 0 + weigh (last_of x) (marked_view bad t next v).facts) + root key x
+    only x (inl e) = omega (
       arith,
       same-is next x (sym e),
       same_pair-eq next 0 x 0 (sym e) refl,
       ap (λ y. times y hand.pushed) e,
       not-pushed key bad t next hand v tied is none,
     )
-    go (inr other) = omega (arith, tied x, marked-last bad t next x v, same-not next x (λ e. other (sym e)))
+    only x (inr other) = omega (arith, tied.only x, marked-last bad t next x v, same-not next x (λ e. other (sym e)))
 
 -- ---- a step that has just ended
 

@@ -16,7 +16,7 @@ use Rattle.block_store.specs.declared.view.View.{View}
 use Rattle.block_store.specs.Keys.{step_count}
 use Rattle.block_store.specs.Plays.{IsNewStamp, NotHolds}
 use Rattle.block_store.specs.Seats.{key_of, view, IsSame, IsSameSeat, IsSeatOf}
-use Rattle.block_store.specs.Tallies.{gave_of, took_of}
+use Rattle.block_store.specs.Tallies.{gave_of, last_of, took_of}
 use Rattle.block_store.specs.Views.{learned, timed}
 use Rattle.ready_queue.specs.declared.queue.Pass.{Pass}
 use Rattle.ready_queue.specs.declared.queue.Ready.{Ready}
@@ -64,12 +64,13 @@ module _ (board : Board) (ready : Ready) (w : Worker) (is : IsWorker board ready
 
   -- it learned one fact
   module _ (s : Seat) (f : Fact) (same : IsSame w.seat s) (more : view s ≡ learned f (view w.seat))
-      (took : (x : ℕ) → took_of x f ≡ 0) (gave : (x : ℕ) → gave_of x f ≡ 0) where
+      (took : (x : ℕ) → took_of x f ≡ 0) (gave : (x : ℕ) → gave_of x f ≡ 0) (last : (x : ℕ) → last_of x f ≡ 0) where
     free-on : (x : ℕ) → NotHolds (view s) x
     free-on x = subst (λ (v : View). NotHolds v x) (sym more) (omega (arith, is.free x, took x, gave x))
 
     tied-on : IsTied (key_of board) w.pass (view s)
-    tied-on = subst (λ (v : View). IsTied (key_of board) w.pass v) (sym more) (λ x. omega (arith, is.tied x))
+    tied-on = subst (λ (v : View). IsTied (key_of board) w.pass v) (sym more)
+        (record { all = λ x. omega (arith, is.tied.all x, last x); only = λ x. omega (arith, is.tied.only x) })
 
     pub worker-learned : IsNoEvent f → IsWorker board ready (record w { seat = s })
     worker-learned quiet = worker-on s w.pass w.desk same
@@ -92,10 +93,10 @@ module _ (board : Board) (ready : Ready) (w : Worker) (is : IsWorker board ready
     }
 
   pub worker-claimed : (s : Seat) (t : ℕ) → IsSame w.seat s → view s ≡ learned (Claimed t) (view w.seat) → IsWorker board ready (record w { seat = s })
-  worker-claimed s t same more = worker-learned s (Claimed t) same more (λ x. refl) (λ x. refl) tt
+  worker-claimed s t same more = worker-learned s (Claimed t) same more (λ x. refl) (λ x. refl) (λ x. refl) tt
 
   pub worker-refused : (s : Seat) (t word : ℕ) → IsSame w.seat s → view s ≡ learned (Refused t word) (view w.seat) → IsWorker board ready (record w { seat = s })
-  worker-refused s t word same more = worker-learned s (Refused t word) same more (λ x. refl) (λ x. refl) tt
+  worker-refused s t word same more = worker-learned s (Refused t word) same more (λ x. refl) (λ x. refl) (λ x. refl) tt
 
   -- a stamp that was drawn is a place of the log
   pub stamp-within : (n : ℕ) → IsNewStamp n (view w.seat) → n < length w.log.items
@@ -103,7 +104,7 @@ module _ (board : Board) (ready : Ready) (w : Worker) (is : IsWorker board ready
 
   pub worker-began : (s : Seat) (t n : ℕ) (log : Vec (Option Event) Global) → IsSame w.seat s → view s ≡ learned (Began t n) (view w.seat)
       → IsNewStamp n (view w.seat) → log.items ≡ set w.log.items n (Some (Start t)) → IsWorker board ready (record w { seat = s; log = log })
-  worker-began s t n log same more new put = worker-logged s (Began t n) same more (λ x. refl) (λ x. refl) log w.failed
+  worker-began s t n log same more new put = worker-logged s (Began t n) same more (λ x. refl) (λ x. refl) (λ x. refl) log w.failed
       (ap (λ (es : List (Option Event)). length es) put ∙ length-set w.log.items n (Some (Start t)))
       (rw put (logged-began w.log.items (view w.seat).facts t n is.logged new.1 (stamp-within n new)))
       (noted-began (key_of board) (view w.seat).facts t n w.failed is.noted)
@@ -111,7 +112,7 @@ module _ (board : Board) (ready : Ready) (w : Worker) (is : IsWorker board ready
   pub worker-ended : (s : Seat) (t n : ℕ) (o : StepOutcome) (log : Vec (Option Event) Global) (failed : Option Failure) → IsSame w.seat s
       → view s ≡ learned (Ended t n o) (view w.seat) → IsNewStamp n (view w.seat) → log.items ≡ set w.log.items n (Some (Finish t))
       → failed ≡ noted_after (key_of board) t o w.failed → IsWorker board ready (record w { seat = s; log = log; failed = failed })
-  worker-ended s t n o log failed same more new put noted = worker-logged s (Ended t n o) same more (λ x. refl) (λ x. refl) log failed
+  worker-ended s t n o log failed same more new put noted = worker-logged s (Ended t n o) same more (λ x. refl) (λ x. refl) (λ x. refl) log failed
       (ap (λ (es : List (Option Event)). length es) put ∙ length-set w.log.items n (Some (Finish t)))
       (rw put (logged-ended w.log.items (view w.seat).facts t n o is.logged new.1 (stamp-within n new)))
       (rw noted (noted-more (key_of board) (view w.seat).facts t n o w.failed is.noted))
@@ -120,12 +121,13 @@ module _ (board : Board) (ready : Ready) (w : Worker) (is : IsWorker board ready
   pub worker-timed : (s : Seat) (n : ℕ) → IsSame w.seat s → view s ≡ timed n (view w.seat) → IsWorker board ready (record w { seat = s })
   worker-timed s n same now =
       let facts : (view s).facts ≡ (view w.seat).facts = ap (λ (v : View). v.facts) now in
-      worker-on s w.pass w.desk same (rw facts (same-events (view w.seat).facts)) (λ x. rw facts (is.free x)) is.pass (λ x. rw facts (is.tied x)) is.desk
+      worker-on s w.pass w.desk same (rw facts (same-events (view w.seat).facts)) (λ x. rw facts (is.free x)) is.pass
+      (record { all = λ x. rw facts (is.tied.all x); only = λ x. rw facts (is.tied.only x) }) is.desk
 
   -- a number was popped, or none
   pub worker-popped : (p : Pass) (popped : Option ℕ) → IsPassOf ready p → IfSome popped (λ t. queues.view p ≡ after_pop t (queues.view w.pass))
       → IfNone popped (queues.view p ≡ queues.view w.pass) → IsWorker board ready (record w { pass = p })
   worker-popped p (Some t) pass one none = worker-on w.seat p w.desk (itself w.seat, refl) (same-events (view w.seat).facts) is.free pass
-      (λ x. rw one (is.tied x)) is.desk
+      (record { all = λ x. rw one (is.tied.all x); only = λ x. rw one (is.tied.only x) }) is.desk
   worker-popped p None pass one none = worker-on w.seat p w.desk (itself w.seat, refl) (same-events (view w.seat).facts) is.free pass
-      (λ x. rw none (is.tied x)) is.desk
+      (record { all = λ x. rw none (is.tied.all x); only = λ x. rw none (is.tied.only x) }) is.desk

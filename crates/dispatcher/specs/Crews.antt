@@ -1,5 +1,8 @@
 -- The workers of a run before it, and what a run answers.
 use Rattle.std.specs.Prelude.{◌≡◌, ℕ, ◌*◌, List, length, slice_get, Option, Some, None}
+use Rattle.equation.specs.declared.job.Job.{Job}
+use Rattle.equation.specs.declared.job.Place.{Place}
+use Rattle.equation.specs.Meanings.{MeansBadPivot}
 use Rattle.step_replays.specs.declared.step.Step.{Step}
 use Rattle.step_replays.specs.Replays.{StepResult, IsDone, IsFailure}
 use Rattle.task_values.specs.declared.outcome.Failure.{Failure}
@@ -14,11 +17,12 @@ use Rattle.dispatcher.specs.declared.plan.Plan.{Plan}
 use Rattle.dispatcher.specs.declared.worker.Worker.{Worker}
 use Rattle.dispatcher.specs.Courses.{AreSizes}
 use Rattle.dispatcher.specs.Joining.{standing}
+use Rattle.dispatcher.specs.Plans.{workers_of_plan}
 use Rattle.dispatcher.specs.Workers.{IsNewWorker}
 
--- the board is one of this run
+-- the board is one of this plan, for as many workers as run it
 abbrev pub IsBoardOf : Plan → Board → Type 0
-IsBoardOf p board = IsKeyOf p.job.now p.b p.steps.now (key_of board).workers (key_of board)
+IsBoardOf p board = IsKeyOf p.job.now p.b p.steps.now (workers_of_plan p) (key_of board)
 
 -- a worker for each of the board's, which have done nothing, with a queue for its steps, the shapes of its blocks, and room for a
 -- schedule
@@ -37,3 +41,8 @@ IsFailureOf steps results (Some f) = IsFailure steps results f.statement (record
 
 abbrev pub IsFirstFailure : BoardKey → Option Failure → Type 0
 IsFirstFailure key failed = (results : List StepResult) → IsReplayOf key results → IsFailureOf key.steps.value results failed
+
+-- no statement of the job meets a bad pivot, or this is its first bad pivot
+abbrev pub IsFirstBadPivot : Job → Option Failure → Type 0
+IsFirstBadPivot job None = (statement : ℕ) (place : Place) → MeansBadPivot job statement place → ⊥
+IsFirstBadPivot job (Some f) = MeansBadPivot job f.statement (record { row = f.row; col = f.col })

@@ -1,5 +1,5 @@
 -- What a run is asked for.
-use Rattle.std.specs.Prelude.{ℕ, ◌≤◌, length}
+use Rattle.std.specs.Prelude.{ℕ, ◌≤◌, max, min, length}
 use Rattle.equation.specs.Jobs.{IsJob}
 use Rattle.step_replays.specs.Fits.{FitsJob}
 use Rattle.block_store.specs.Keys.{most_steps}
@@ -17,3 +17,7 @@ pub record IsPlan (p : Plan) : Type 0 where
   pub few : length p.steps.now ≤ most_steps
   pub some_worker : 1 ≤ p.workers
   pub few_workers : p.workers ≤ most_workers
+
+-- how many workers run a plan: as many as it asks for, though no more than there are steps, and one at least
+abbrev pub workers_of_plan : Plan → ℕ
+workers_of_plan p = max 1 (min p.workers (length p.steps.now))

@@ -1,12 +1,12 @@
 -- What a seat learns while it tells the steps behind one that has ended, and what it pushes for that.
-use Rattle.std.specs.Prelude.{◌≡◌, ℕ, ◌+◌, ◌≤◌, ◌<◌, List, ◌++◌, All, Bool, true, false, ◌==◌, if◌then◌else◌}
+use Rattle.std.specs.Prelude.{◌≡◌, ℕ, ◌+◌, ◌≤◌, ◌<◌, ◌⊎◌, List, ◌++◌, All, Bool, true, false, ◌==◌, if◌then◌else◌}
 use Rattle.block_store.specs.declared.key.BoardKey.{BoardKey}
 use Rattle.block_store.specs.declared.view.Fact.{Fact}
-use Rattle.block_store.specs.declared.view.Fact.TheVariants.{Marked, Noticed}
+use Rattle.block_store.specs.declared.view.Fact.TheVariants.{Refused, Marked, Noticed}
 use Rattle.block_store.specs.declared.view.View.{View}
-use Rattle.block_store.specs.Keys.{preds}
+use Rattle.block_store.specs.Keys.{edge, preds, IsStep}
 use Rattle.block_store.specs.Plays.{NotMarked, NotNoticed, HasEndedBad}
-use Rattle.block_store.specs.Tallies.{weigh, good_of, last_of}
+use Rattle.block_store.specs.Tallies.{weigh, good_of, last_of, notice_of}
 use Rattle.block_store.specs.Views.{learned}
 use Rattle.ready_queue.specs.declared.hand.Hand.{Hand}
 use Rattle.ready_queue.specs.Hands.{times}
@@ -40,13 +40,19 @@ pub record HasTold (t : ℕ) (before after : View) : Type 0 where
 abbrev pub root : BoardKey → ℕ → ℕ
 root key x = if preds key x == 0 then 1 else 0
 
--- a step was pushed, in the view of a pass, only where a seat with this view told it last, or no edge goes into it
-abbrev pub AreTied : BoardKey → Hand → View → Type 0
-AreTied key hand v = (x : ℕ) → times x hand.pushed ≤ weigh (last_of x) v.facts + root key x
+-- a step that a seat with this view told last was pushed, in the view of a pass, and nothing else was but steps into which no edge
+-- goes
+pub record AreTied (key : BoardKey) (hand : Hand) (v : View) : Type 0 where
+  pub all : (x : ℕ) → weigh (last_of x) v.facts ≤ times x hand.pushed
+  pub only : (x : ℕ) → times x hand.pushed ≤ weigh (last_of x) v.facts + root key x
 
 -- the same of a pass
 abbrev pub IsTied : BoardKey → Pass → View → Type 0
 IsTied key pass v = AreTied key (queues.view pass) v
+
+-- each step into which no edge goes was pushed
+abbrev pub HasPushedRoots : BoardKey → Pass → Type 0
+HasPushedRoots key pass = (x : ℕ) → IsStep key x → root key x ≤ times x (queues.view pass).pushed
 
 -- ---- one step is told
 
@@ -58,3 +64,19 @@ marked_view false t next v = v
 -- and once it is told, with so many edges left
 abbrev pub told_view : Bool → ℕ → ℕ → ℕ → View → View
 told_view bad t next left v = learned (Noticed t next left) (marked_view bad t next v)
+
+-- ---- all steps behind one are told
+
+-- each step to which an edge goes from t is told of its end
+abbrev pub HasToldAll : BoardKey → ℕ → View → Type 0
+HasToldAll key t v = (next : ℕ) → 0 < edge key t next → 0 < weigh (notice_of t next) v.facts
+
+-- step t has ended in this view, and the steps behind it are told
+pub record HasFinished (key : BoardKey) (t : ℕ) (v : View) : Type 0 where
+  pub bad : Bool
+  pub ended : HasEndedAs bad t v
+  pub told : HasToldAll key t v
+
+-- a seat was refused step t and learned nothing else, or it has ended it and told the steps behind it
+abbrev pub HasHandled : BoardKey → ℕ → View → View → Type 0
+HasHandled key t before after = ((word : ℕ) × (after ≡ learned (Refused t word) before)) ⊎ HasFinished key t after

@@ -39,7 +39,6 @@ impl Crew {
     ) -> Result<Crew, AllocError>
         requires plan { IsPlan plan.now }
         requires board { IsBoardOf plan.now board.now }
-        requires workers { (1 ≤ (key_of board.now).workers) × ((key_of board.now).workers ≤ 16) }
         requires seats { AreFirstSeats board.now seats.items }
         ensures { IfOk result (IsCrew board.now) }
     {

@@ -10,7 +10,7 @@ ghost use Rattle.block_store.specs.Keys.{step_count};
 ghost use Rattle.block_store.specs.Plays.{NotHolds, StandsForAll};
 ghost use Rattle.block_store.specs.Seats.{key_of, view, IsSeatOf};
 ghost use Rattle.dispatcher.specs.Crews.{IsBoardOf, IsFirstFailure};
-ghost use Rattle.dispatcher.specs.Plans.{IsPlan, most_workers};
+ghost use Rattle.dispatcher.specs.Plans.{IsPlan, workers_of_plan};
 
 use crate::crew::Crew;
 use crate::plan::Plan;
@@ -66,8 +66,7 @@ pub fn run_steps<R: Threads + Wait + Sync, G: Gate>(
 /// As many workers as the plan asks for, though no more than there are steps, and one at least.
 fn worker_count(plan: &Plan<'_>) -> u32
     requires { IsPlan plan.now }
-    ensures some { 1 ≤ result }
-    ensures few { result ≤ most_workers }
+    ensures { result ≡ workers_of_plan plan.now }
 {
     plan.workers.min(plan.steps.len() as u32).max(1)
 }

@@ -14,10 +14,10 @@ ghost use Rattle.ready_queue.specs.Queues.{IsFirstPass, IsPassOf};
 ghost use Rattle.ready_queue.specs.Queues as queues;
 ghost use Rattle.dispatcher.specs.declared.worker.Worker.{Worker};
 ghost use Rattle.dispatcher.specs.Courses.{IsCourse};
-ghost use Rattle.dispatcher.specs.Crews.{IsBoardOf, IsCrew, IsFirstFailure};
+ghost use Rattle.dispatcher.specs.Crews.{IsBoardOf, IsCrew, IsFirstBadPivot, IsFirstFailure};
 ghost use Rattle.dispatcher.specs.Plans.{IsPlan};
 ghost use Rattle.dispatcher.specs.Joining.{standing, HasEnded};
-ghost use Rattle.dispatcher.specs.Telling.{root};
+ghost use Rattle.dispatcher.specs.Telling.{root, HasPushedRoots};
 ghost use Rattle.dispatcher.specs.Workers.{IsNewWorker, IsWorker};
 
 use crate::course::Course;
@@ -51,6 +51,7 @@ impl Course<'_> {
         ensures pass { IsPassOf self.now.ready.now pass.new }
         ensures first { (x : ℕ) → times x (queues.view pass.new).pushed
             ≤ root (key_of self.now.board.now) x }
+        ensures roots { HasPushedRoots (key_of self.now.board.now) pass.new }
     {
         for n in 0..self.run.steps.len() as u32 {
             if self.edges.preds(n + 1) == 0 {
@@ -65,6 +66,7 @@ impl Course<'_> {
         requires worker { IsNewWorker self.now.board.now self.now.ready.now worker.old }
         ensures worker { IsWorker self.now.board.now self.now.ready.now worker.new }
         ensures same { IsSameSeat worker.old.seat worker.new.seat }
+        ensures roots { HasPushedRoots (key_of self.now.board.now) worker.new.pass }
     {
         self.push_first(rt, &mut worker.pass);
     }
@@ -98,7 +100,6 @@ pub fn run<R: Threads + Wait + Sync, G: Gate>(
 ) -> Ran
     requires plan { IsPlan plan.now }
     requires board { IsBoardOf plan.now board.now }
-    requires workers { 1 ≤ (key_of board.now).workers }
     requires edges { edges.now ≡ edges_of (accesses_of plan.now.steps.now) }
     requires crew { IsCrew board.now crew }
     ensures seat { IsSeatOf board.now result.seat }
@@ -109,6 +110,7 @@ pub fn run<R: Threads + Wait + Sync, G: Gate>(
     ensures schedule { IsSchedule (step_access plan.now.steps.now) (length plan.now.steps.now)
         result.schedule }
     ensures failed { IsFirstFailure (key_of board.now) result.failed }
+    ensures pivot { IsFirstBadPivot plan.now.job.now result.failed }
 {
     let Crew {
         mut workers,

@@ -6,7 +6,7 @@ ghost use Rattle.block_store.specs.Plays.{NotMarked, NotNoticed};
 ghost use Rattle.block_store.specs.Seats.{key_of, view, IsSame, IsSeatOf};
 ghost use Rattle.ready_queue.specs.Queues.{IsPassOf};
 ghost use Rattle.dispatcher.specs.Courses.{IsCourse};
-ghost use Rattle.dispatcher.specs.Telling.{HasEndedAs, HasTold, HasToldNone, IsTied, marked_view, told_view};
+ghost use Rattle.dispatcher.specs.Telling.{HasEndedAs, HasTold, HasToldAll, HasToldNone, IsTied, marked_view, told_view};
 
 use crate::course::Course;
 use block_store::Seat;
@@ -72,14 +72,15 @@ impl Course<'_> {
         requires fresh { HasToldNone t (view seat.old) }
         ensures same { IsSame seat.old seat.new }
         ensures told { HasTold t (view seat.old) (view seat.new) }
+        ensures all { HasToldAll (key_of self.now.board.now) t (view seat.new) }
+        ensures ended { HasEndedAs bad t (view seat.new) }
         ensures pass { IsPassOf self.now.ready.now pass.new }
         ensures tied { IsTied (key_of self.now.board.now) pass.new (view seat.new) }
     {
-        for place in 0..u32::MAX {
-            let Some(next) = self.edges.succ(t, place) else {
-                return;
-            };
+        let mut place = 0;
+        while let Some(next) = self.edges.succ(t, place) {
             self.tell(rt, seat, pass, t, next, bad);
+            place += 1;
         }
     }
 }

@@ -8,7 +8,7 @@ ghost use Rattle.block_store.specs.Plays.{HasBegun, HasClaimed, HasPut, NotBegun
 ghost use Rattle.block_store.specs.Seats.{key_of, view, IsSameSeat};
 ghost use Rattle.block_store.specs.Views.{learned};
 ghost use Rattle.dispatcher.specs.Courses.{IsCourse};
-ghost use Rattle.dispatcher.specs.Telling.{HasEndedAs, HasToldNone};
+ghost use Rattle.dispatcher.specs.Telling.{HasEndedAs, HasHandled, HasToldNone};
 ghost use Rattle.dispatcher.specs.Workers.{IsDone, IsWorker, noted_after};
 
 use crate::course::Course;
@@ -117,6 +117,8 @@ impl Course<'_> {
         requires step { IsStep (key_of self.now.board.now) t }
         ensures worker { IsWorker self.now.board.now self.now.ready.now worker.new }
         ensures same { IsSameSeat worker.old.seat worker.new.seat }
+        ensures handled { HasHandled (key_of self.now.board.now) t (view worker.old.seat)
+            (view worker.new.seat) }
     {
         let claimed = self.board.claim(&mut worker.seat, t);
         if !claimed {

@@ -1,4 +1,4 @@
-use Rattle.std.proofs.Common.{subst, sym}
+use Rattle.std.proofs.Common.{inl, inr, subst, sym}
 use Rattle.block_store.specs.declared.view.View.{View}
 use Rattle.block_store.specs.Plays.{HasClaimed, NotBegun, NotEnded, NotPut}
 use Rattle.block_store.specs.Seats.{view}
@@ -60,3 +60,9 @@ pub returns-clause-same : goal.returns-clause-same
 returns-clause-same g c =
     let done = same-seats c.args.worker.now.seat c.claim-claimed.new.seat c.carry_out-bad.new.worker.seat c.claim-claimed.ensures.same.0 c.carry_out-bad.ensures.same in
     same-seats c.args.worker.now.seat c.carry_out-bad.new.worker.seat c.tell_all.new.seat done c.tell_all.ensures.same.0
+
+pub returns-then-not-claimed-clause-handled : goal.returns-then-not-claimed-clause-handled
+returns-then-not-claimed-clause-handled g c = let refused = c.claim-claimed.ensures.refused c.if-not-claimed.true in inl (refused.0, refused.2)
+
+pub returns-clause-handled : goal.returns-clause-handled
+returns-clause-handled g c = inr (record { bad = c.carry_out-bad.result; ended = c.tell_all.ensures.ended; told = c.tell_all.ensures.all })

@@ -1,15 +1,16 @@
-use Rattle.std.proofs.Common.{◌≡◌, ◌+◌, ◌∷◌, sym, ap, ◌∙◌, subst, arith}
+use Rattle.std.proofs.Common.{◌≡◌, ◌≢◌, ◌+◌, ◌∷◌, sym, ap, ◌∙◌, subst, arith}
 use Rattle.block_store.specs.Keys.{preds}
 use Rattle.block_store.specs.Seats.{key_of}
 use Rattle.ready_queue.specs.declared.hand.Hand.{Hand}
 use Rattle.ready_queue.specs.declared.queue.Pass.{Pass}
 use Rattle.ready_queue.specs.Queues as queues
+use Rattle.dispatcher.proofs.CourseKeys.{course-count}
 use Rattle.dispatcher.proofs.FirstSteps.{AreRoots, course-preds, roots-more, roots-none, roots-skip}
 use Rattle.dispatcher.proofs.course.Course.push_first.Goals as goal
 use Rattle.dispatcher.proofs.course.Course.push_first.Goals.{then-preds-eq0, else-preds-eq0}
 
 pub loop-n-init : goal.loop-n-init
-loop-n-init g c = (c.requires.pass.of, roots-none (key_of c.args.self.now.board.now) 0 (queues.view c.args.pass.now).pushed c.requires.pass.pushed)
+loop-n-init g c = (c.requires.pass.of, roots-none (key_of c.args.self.now.board.now) (queues.view c.args.pass.now).pushed c.requires.pass.pushed)
 
 pub push-requires-clause-pass : goal.push-requires-clause-pass
 push-requires-clause-pass g c = c.loop-n.invariant.0
@@ -29,9 +30,14 @@ loop-n-preserved g c =
           subst (λ (p : Pass). queues.IsPassOf c.args.self.now.ready.now p × AreRoots key (n + 1) (queues.view p).pushed) (sym w.pass-is)
           (w.push.ensures.pass, roots-more key n pushed (queues.view w.push.new.pass).pushed none more c.loop-n.invariant.1)
       | else-preds-eq0 w ↦
+          let some : preds key (n + 1) ≢ 0 = λ none. w.if-preds-eq0.false (c.preds.ensures ∙ (course-preds c.args.self.now c.requires.course (n + 1) ∙ none)) in
           subst (λ (p : Pass). queues.IsPassOf c.args.self.now.ready.now p × AreRoots key (n + 1) (queues.view p).pushed) (sym w.pass-is)
-          (c.loop-n.invariant.0, roots-skip key n pushed c.loop-n.invariant.1)
+          (c.loop-n.invariant.0, roots-skip key n pushed some c.loop-n.invariant.1)
     ]
 
 pub returns-clause-first : goal.returns-clause-first
 returns-clause-first g c = c.loop-n.invariant.1.roots
+
+pub returns-clause-roots : goal.returns-clause-roots
+returns-clause-roots g c x step =
+    c.loop-n.invariant.1.all x step.0 (omega (arith, step.1, course-count c.args.self.now c.requires.course, c.loop-n-test.false))

@@ -4,8 +4,9 @@ use Rattle.schedule_core.specs.declared.event.Event.{Event}
 use Rattle.schedule_core.specs.EventBlocks.{step_access}
 use Rattle.schedule_core.specs.Schedules.{IsSchedule}
 use Rattle.block_store.specs.Seats.{key_of, view}
+use Rattle.block_store.specs.Stamps.{AreByStamps}
 use Rattle.dispatcher.proofs.Failures.{first-failure}
-use Rattle.dispatcher.proofs.JoinedEvents.{full-log, run-schedule}
+use Rattle.dispatcher.proofs.JoinedEvents.{full-log, run-schedule, run-stamps}
 use Rattle.dispatcher.proofs.course.Course.settle.Goals as goal
 
 pub put_in_order-requires-clause-full : goal.put_in_order-requires-clause-full
@@ -25,6 +26,17 @@ returns-clause-schedule c =
     let kept = with_items_is c.args.room events (omega (arith, same, c.args.room.ok.0)) in
     subst (λ (xs : List Event). IsSchedule (step_access steps) (length steps) xs) (sym (c.from_vec.ensures ∙ kept))
     (run-schedule (key_of c.args.self.now.board.now) (view j.seat) j.log.items e.whole e.joined.covered steps events c.requires.course.key.steps_are (same ∙ c.requires.room)
+    (λ n d at. ap (λ (xs : List (Option Event)). slice_get xs n) (sym c.as_slice.ensures.value) ∙ c.put_in_order.ensures.each n d at))
+
+pub returns-clause-stamps : goal.returns-clause-stamps
+returns-clause-stamps c =
+    let j = c.join_all-joined.result in
+    let e = c.join_all-joined.ensures in
+    let events = c.put_in_order.new.schedule in
+    let same : length events ≡ length c.args.room.items = c.put_in_order.ensures.many ∙ ap length c.as_mut_slice.ensures.value in
+    let kept = with_items_is c.args.room events (omega (arith, same, c.args.room.ok.0)) in
+    subst (λ (xs : List Event). AreByStamps (view j.seat).facts xs) (sym (c.from_vec.ensures ∙ kept))
+    (run-stamps (key_of c.args.self.now.board.now) (view j.seat) j.log.items e.whole e.joined.covered events (same ∙ c.requires.room)
     (λ n d at. ap (λ (xs : List (Option Event)). slice_get xs n) (sym c.as_slice.ensures.value) ∙ c.put_in_order.ensures.each n d at))
 
 pub returns-clause-failed : goal.returns-clause-failed

@@ -66,4 +66,4 @@ returns-else-was_last-clause-tied g c =
     let now : view c.notify-left.new.seat ≡ told_view a.bad a.t a.next left (view a.seat.now) =
     c.notify-left.ensures.noticed ∙ ap (λ (w : View). learned (Noticed a.t a.next left) w) c.mark.ensures.marked in
     subst (λ (w : View). AreTied key (queues.view a.pass.now) w) (sym now)
-    (tied-told key a.bad a.t a.next left (queues.view a.pass.now) (view a.seat.now) c.requires.tied)
+    (tied-told key a.bad a.t a.next left (queues.view a.pass.now) (view a.seat.now) c.if-was_last.false c.requires.tied)

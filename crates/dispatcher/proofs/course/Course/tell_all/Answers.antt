@@ -1,40 +1,41 @@
 use Rattle.std.proofs.Common.{rules, ℕ, ◌+◌, List, subst, sym, ◌∙◌, arith}
 use Rattle.dependence_queue.specs.Edges.{successors}
 use Rattle.block_store.specs.declared.view.View.{View}
-use Rattle.block_store.specs.Seats.{view}
+use Rattle.block_store.specs.Seats.{key_of, view}
 use Rattle.dispatcher.specs.Telling.{HasEndedAs, HasTold}
-use Rattle.dispatcher.proofs.CourseKeys.{course-apart, course-successor}
-use Rattle.dispatcher.proofs.ToldSteps.{AreUntold, ended-told, told-nothing, told-pair, untold-all, untold-next}
+use Rattle.dispatcher.proofs.CourseKeys.{course-apart, course-listed, course-place, course-successor}
+use Rattle.dispatcher.proofs.ToldSteps.{AreTold, AreUntold, ended-told, told-all, told-next, told-nothing, told-pair, untold-all, untold-next}
 use Rattle.dispatcher.proofs.course.Course.tell_all.Goals as goal
 
-pub loop-place-init : goal.loop-place-init
-loop-place-init g c = record {
+pub loop-next-init : goal.loop-next-init
+loop-next-init g c = record {
   seat = c.requires.seat;
   same = search rules;
   told = told-nothing c.args.t (view c.args.seat.now);
   pass = c.requires.pass;
   tied = c.requires.tied;
   ended = c.requires.ended;
+  done = λ j a below at. absurd (omega (arith, below));
   fresh = untold-all c.args.t (view c.args.seat.now) (successors c.args.self.now.edges.now c.args.t) c.requires.fresh;
 }
 
 pub tell-requires-clause-edge : goal.tell-requires-clause-edge
-tell-requires-clause-edge g c = course-successor c.args.self.now c.requires.course c.args.t c.loop-place.place _ (sym c.succ.ensures ∙ c.in-Some.is)
+tell-requires-clause-edge g c = course-successor c.args.self.now c.requires.course c.args.t c.loop-next.place _ (sym c.succ.ensures ∙ c.in-Some.is)
 
 pub tell-requires-clause-unnoticed : goal.tell-requires-clause-unnoticed
-tell-requires-clause-unnoticed g c = (c.loop-place.invariant.fresh c.loop-place.place _ (omega arith) (sym c.succ.ensures ∙ c.in-Some.is)).0
+tell-requires-clause-unnoticed g c = (c.loop-next.invariant.fresh c.loop-next.place _ (omega arith) (sym c.succ.ensures ∙ c.in-Some.is)).0
 
 pub tell-requires-clause-unmarked : goal.tell-requires-clause-unmarked
-tell-requires-clause-unmarked g c = (c.loop-place.invariant.fresh c.loop-place.place _ (omega arith) (sym c.succ.ensures ∙ c.in-Some.is)).1
+tell-requires-clause-unmarked g c = (c.loop-next.invariant.fresh c.loop-next.place _ (omega arith) (sym c.succ.ensures ∙ c.in-Some.is)).1
 
-pub loop-place-preserved : goal.loop-place-preserved
-loop-place-preserved g c =
+pub loop-next-preserved : goal.loop-next-preserved
+loop-next-preserved g c =
     let a = c.args in
-    let inv = c.loop-place.invariant in
+    let inv = c.loop-next.invariant in
     let t = c.tell.ensures in
     let row : List ℕ = successors a.self.now.edges.now a.t in
     let left : ℕ = t.told.0 in
-    let v : View = view c.loop-place.seat in
+    let v : View = view c.loop-next.seat in
     record {
       seat = search rules;
       same = search rules;
@@ -42,6 +43,17 @@ loop-place-preserved g c =
       pass = t.pass;
       tied = t.tied;
       ended = subst (λ (w : View). HasEndedAs a.bad a.t w) (sym t.told.1) (ended-told a.bad a.bad a.t _ left v inv.ended);
-      fresh = subst (λ (w : View). AreUntold a.t w row (c.loop-place.place + 1)) (sym t.told.1)
-          (untold-next a.bad a.t _ left c.loop-place.place v row (course-apart a.self.now c.requires.course a.t) (sym c.succ.ensures ∙ c.in-Some.is) inv.fresh);
+      done = subst (λ (w : View). AreTold a.t w row (c.loop-next.place + 1)) (sym t.told.1)
+          (told-next a.bad a.t _ left c.loop-next.place v row (sym c.succ.ensures ∙ c.in-Some.is) inv.done);
+      fresh = subst (λ (w : View). AreUntold a.t w row (c.loop-next.place + 1)) (sym t.told.1)
+          (untold-next a.bad a.t _ left c.loop-next.place v row (course-apart a.self.now c.requires.course a.t) (sym c.succ.ensures ∙ c.in-Some.is) inv.fresh);
     }
+
+pub returns-clause-all : goal.returns-clause-all
+returns-clause-all g c =
+    let a = c.args in
+    told-all (key_of a.self.now.board.now) a.t c.loop-next.place (view c.loop-next.seat) (successors a.self.now.edges.now a.t)
+    (course-listed a.self.now c.requires.course a.t) (let none = c.in_default.ensures in cc) c.loop-next.invariant.done
+
+pub overflow_add-place : goal.overflow_add-place
+overflow_add-place g c = omega (arith, course-place c.args.self.now c.requires.course c.args.t c.loop-next.place _ (sym c.succ.ensures ∙ c.in-Some.is))
