@@ -1,0 +1,8 @@
+use Rattle.std.proofs.Common.{◌≡◌, map, if◌then◌else◌}
+use Rattle.task_graph.specs.Order.{numbers_below}
+use Rattle.task_graph.specs.declared.cut.Sides.TheVariants.{One}
+use Rattle.invariant_family.specs.Splits.{is_split, dir_of, middle_done}
+use Rattle.worksheet.proofs.moments.cut_after.Given as goal
+
+abbrev pub invariant-loop-dim : goal.invariant-loop-dim
+invariant-loop-dim l = l.cut ≡ map (λ d. if is_split l.split d then middle_done (dir_of l.split l.dirs d) else One) (numbers_below l.dim)
