@@ -3,26 +3,29 @@ use Rattle.std.proofs.Common.{◌≡◌, ◌≢◌, inl, inr, ◌⊎◌, ℕ, Li
 use Rattle.std.specs.Prelude.{codes}
 use Rattle.variant_report.specs.declared.self_words.SelfWords.{SelfWords}
 use Rattle.command_words.specs.declared.command.Command.{Command}
-use Rattle.command_words.specs.declared.command.Command.TheVariants.{Derive, Verify, Make, Run, SelfRun}
+use Rattle.command_words.specs.declared.command.Command.TheVariants.{Derive, Pme, Verify, Make, Run, SelfRun}
 use Rattle.command_words.specs.declared.command.RunWords.{RunWords}
-use Rattle.command_words.specs.Words.{AreBad, AreMakeNumbers, AreRunWords, AreSelfWords, AreSizes, AreWordsOf, choice_words, make_words, size_words, trace_words}
+use Rattle.command_words.specs.Words.{AreBad, AreMakeNumbers, ArePmeWords, AreRunWords, AreSelfWords, AreSizes, AreWordsOf, choice_words, make_words, size_words, trace_words}
+use Rattle.command_words.proofs.PmeWords.{pme_words_or_not}
 use Rattle.command_words.proofs.RunOptions.{NoOptions, OptionsOrNone, options_or_none}
 use Rattle.command_words.proofs.WordFronts.{MakeNumbersOrNone, NoMakeNumbers, NoSizes, SizesOrNone, make_numbers_or_none, other_name, same_or_other, sizes_or_none}
 
 -- ---- no command
 
--- a first word that is none of the five
-bad_name : (first : List ℕ) (rest : List (List ℕ)) → first ≢ codes "derive" → first ≢ codes "verify" → first ≢ codes "make" → first ≢ codes "run"
+-- a first word that is none of the six
+bad_name : (first : List ℕ) (rest : List (List ℕ)) → first ≢ codes "derive" → first ≢ codes "pme" → first ≢ codes "verify" → first ≢ codes "make" → first ≢ codes "run"
     → first ≢ codes "selfrun" → AreBad (first ∷ rest)
-bad_name first rest no_derive no_verify no_make no_run no_selfrun Derive named = no_derive (cc)
-bad_name first rest no_derive no_verify no_make no_run no_selfrun Verify named = no_verify (cc)
-bad_name first rest no_derive no_verify no_make no_run no_selfrun (Make n m seed) named = no_make (cc)
-bad_name first rest no_derive no_verify no_make no_run no_selfrun (Run words) named = no_run (cc)
-bad_name first rest no_derive no_verify no_make no_run no_selfrun (SelfRun words) named = no_selfrun (cc)
+bad_name first rest no_derive no_pme no_verify no_make no_run no_selfrun Derive named = no_derive (cc)
+bad_name first rest no_derive no_pme no_verify no_make no_run no_selfrun (Pme op dims) named = no_pme (cc)
+bad_name first rest no_derive no_pme no_verify no_make no_run no_selfrun Verify named = no_verify (cc)
+bad_name first rest no_derive no_pme no_verify no_make no_run no_selfrun (Make n m seed) named = no_make (cc)
+bad_name first rest no_derive no_pme no_verify no_make no_run no_selfrun (Run words) named = no_run (cc)
+bad_name first rest no_derive no_pme no_verify no_make no_run no_selfrun (SelfRun words) named = no_selfrun (cc)
 
 -- words behind `derive`, or `verify`
 bad_derive : (first : List ℕ) (rest : List (List ℕ)) → AreBad (codes "derive" ∷ first ∷ rest)
 bad_derive first rest Derive named = absurd cc
+bad_derive first rest (Pme op dims) named = absurd (other_name (codes "derive") (codes "pme") refl named.1)
 bad_derive first rest Verify named = absurd (other_name (codes "derive") (codes "verify") refl named.1)
 bad_derive first rest (Make n m seed) named = absurd (other_name (codes "derive") (codes "make") refl named.1)
 bad_derive first rest (Run words) named = absurd (other_name (codes "derive") (codes "run") refl named.1)
@@ -30,14 +33,36 @@ bad_derive first rest (SelfRun words) named = absurd (other_name (codes "derive"
 
 bad_verify : (first : List ℕ) (rest : List (List ℕ)) → AreBad (codes "verify" ∷ first ∷ rest)
 bad_verify first rest Derive named = absurd (other_name (codes "verify") (codes "derive") refl named.1)
+bad_verify first rest (Pme op dims) named = absurd (other_name (codes "verify") (codes "pme") refl named.1)
 bad_verify first rest Verify named = absurd cc
 bad_verify first rest (Make n m seed) named = absurd (other_name (codes "verify") (codes "make") refl named.1)
 bad_verify first rest (Run words) named = absurd (other_name (codes "verify") (codes "run") refl named.1)
 bad_verify first rest (SelfRun words) named = absurd (other_name (codes "verify") (codes "selfrun") refl named.1)
 
+-- words behind `pme` that are no names of an operation and its dimensions
+pub bad_pme : (rest : List (List ℕ)) → ((op : List ℕ) (dims : List (List ℕ)) → ArePmeWords op dims → rest ≢ op ∷ dims) → AreBad (codes "pme" ∷ rest)
+bad_pme rest none Derive named = absurd (other_name (codes "pme") (codes "derive") refl named.1)
+bad_pme rest none (Pme op dims) named = none op dims named.0 (cc)
+bad_pme rest none Verify named = absurd (other_name (codes "pme") (codes "verify") refl named.1)
+bad_pme rest none (Make n m seed) named = absurd (other_name (codes "pme") (codes "make") refl named.1)
+bad_pme rest none (Run words) named = absurd (other_name (codes "pme") (codes "run") refl named.1)
+bad_pme rest none (SelfRun words) named = absurd (other_name (codes "pme") (codes "selfrun") refl named.1)
+
+-- no words, and words of which the first and the others are no such names
+pub bad_pme_none : AreBad (codes "pme" ∷ [])
+bad_pme_none = bad_pme [] (λ op dims are named. absurd cc)
+
+pub bad_pme_names : (op : List ℕ) (dims : List (List ℕ)) → ¬ (ArePmeWords op dims) → AreBad (codes "pme" ∷ op ∷ dims)
+bad_pme_names op dims none = bad_pme (op ∷ dims) (λ op' dims' are named.
+    none (subst (λ (w : List ℕ × List (List ℕ)). ArePmeWords w.0 w.1) (pair_of op' op dims' dims (sym named)) are))
+  where
+    pair_of : (a b : List ℕ) (xs ys : List (List ℕ)) → a ∷ xs ≡ b ∷ ys → ◌≡◌ {A = List ℕ × List (List ℕ)} (a, xs) (b, ys)
+    pair_of a b xs ys e = cc
+
 -- words behind `make` that are no numbers of a job alone
 pub bad_make : (rest : List (List ℕ)) → ((n m seed : ℕ) → AreMakeNumbers n m seed → rest ≢ make_words n m seed) → AreBad (codes "make" ∷ rest)
 bad_make rest none Derive named = absurd (other_name (codes "make") (codes "derive") refl named.1)
+bad_make rest none (Pme op dims) named = absurd (other_name (codes "make") (codes "pme") refl named.1)
 bad_make rest none Verify named = absurd (other_name (codes "make") (codes "verify") refl named.1)
 bad_make rest none (Make n m seed) named = none n m seed named.0 (cc)
 bad_make rest none (Run words) named = absurd (other_name (codes "make") (codes "run") refl named.1)
@@ -47,6 +72,7 @@ bad_make rest none (SelfRun words) named = absurd (other_name (codes "make") (co
 pub bad_run : (rest : List (List ℕ)) → ((words : RunWords) → AreRunWords words
     → rest ≢ size_words words.block words.workers ++ (choice_words words.choice ++ trace_words words.trace)) → AreBad (codes "run" ∷ rest)
 bad_run rest none Derive named = absurd (other_name (codes "run") (codes "derive") refl named.1)
+bad_run rest none (Pme op dims) named = absurd (other_name (codes "run") (codes "pme") refl named.1)
 bad_run rest none Verify named = absurd (other_name (codes "run") (codes "verify") refl named.1)
 bad_run rest none (Make n m seed) named = absurd (other_name (codes "run") (codes "make") refl named.1)
 bad_run rest none (Run words) named = none words named.0 (cc)
@@ -56,6 +82,7 @@ bad_run rest none (SelfRun words) named = absurd (other_name (codes "run") (code
 pub bad_selfrun : (rest : List (List ℕ)) → ((words : SelfWords) → AreSelfWords words
     → rest ≢ make_words words.n words.m words.seed ++ size_words words.block words.workers) → AreBad (codes "selfrun" ∷ rest)
 bad_selfrun rest none Derive named = absurd (other_name (codes "selfrun") (codes "derive") refl named.1)
+bad_selfrun rest none (Pme op dims) named = absurd (other_name (codes "selfrun") (codes "pme") refl named.1)
 bad_selfrun rest none Verify named = absurd (other_name (codes "selfrun") (codes "verify") refl named.1)
 bad_selfrun rest none (Make n m seed) named = absurd (other_name (codes "selfrun") (codes "make") refl named.1)
 bad_selfrun rest none (Run words) named = absurd (other_name (codes "selfrun") (codes "run") refl named.1)
@@ -100,6 +127,14 @@ BadOrNamed words = AreBad words ⊎ ((command : Command) × AreWordsOf words com
 derive_or_bad : (rest : List (List ℕ)) → BadOrNamed (codes "derive" ∷ rest)
 derive_or_bad [] = inr (Derive, (tt, refl))
 derive_or_bad (first ∷ rest) = inl (bad_derive first rest)
+
+pme_or_bad : (rest : List (List ℕ)) → BadOrNamed (codes "pme" ∷ rest)
+pme_or_bad [] = inl bad_pme_none
+pme_or_bad (op ∷ dims) = go (pme_words_or_not op dims)
+  where
+    go : ArePmeWords op dims ⊎ ¬ (ArePmeWords op dims) → BadOrNamed (codes "pme" ∷ op ∷ dims)
+    go (inl are) = inr (Pme op dims, (are, refl))
+    go (inr none) = inl (bad_pme_names op dims none)
 
 verify_or_bad : (rest : List (List ℕ)) → BadOrNamed (codes "verify" ∷ rest)
 verify_or_bad [] = inr (Verify, (tt, refl))
@@ -162,20 +197,23 @@ bad_or_named [] = inl bad_none
   where
     bad_none : AreBad []
     bad_none Derive named = absurd cc
+    bad_none (Pme op dims) named = absurd cc
     bad_none Verify named = absurd cc
     bad_none (Make n m seed) named = absurd cc
     bad_none (Run words) named = absurd cc
     bad_none (SelfRun words) named = absurd cc
 bad_or_named (first ∷ rest) =
-    go (same_or_other first (codes "derive")) (same_or_other first (codes "verify")) (same_or_other first (codes "make"))
-    (same_or_other first (codes "run")) (same_or_other first (codes "selfrun"))
+    go (same_or_other first (codes "derive")) (same_or_other first (codes "pme")) (same_or_other first (codes "verify"))
+    (same_or_other first (codes "make")) (same_or_other first (codes "run")) (same_or_other first (codes "selfrun"))
   where
-    go : (first ≡ codes "derive") ⊎ (first ≢ codes "derive") → (first ≡ codes "verify") ⊎ (first ≢ codes "verify")
-        → (first ≡ codes "make") ⊎ (first ≢ codes "make") → (first ≡ codes "run") ⊎ (first ≢ codes "run")
-        → (first ≡ codes "selfrun") ⊎ (first ≢ codes "selfrun") → BadOrNamed (first ∷ rest)
-    go (inl a) b c d e = begun_by (codes "derive") first rest a (derive_or_bad rest)
-    go (inr a) (inl b) c d e = begun_by (codes "verify") first rest b (verify_or_bad rest)
-    go (inr a) (inr b) (inl c) d e = begun_by (codes "make") first rest c (make_or_bad rest)
-    go (inr a) (inr b) (inr c) (inl d) e = begun_by (codes "run") first rest d (run_or_bad rest)
-    go (inr a) (inr b) (inr c) (inr d) (inl e) = begun_by (codes "selfrun") first rest e (selfrun_or_bad rest)
-    go (inr a) (inr b) (inr c) (inr d) (inr e) = inl (bad_name first rest a b c d e)
+    go : (first ≡ codes "derive") ⊎ (first ≢ codes "derive") → (first ≡ codes "pme") ⊎ (first ≢ codes "pme")
+        → (first ≡ codes "verify") ⊎ (first ≢ codes "verify") → (first ≡ codes "make") ⊎ (first ≢ codes "make")
+        → (first ≡ codes "run") ⊎ (first ≢ codes "run") → (first ≡ codes "selfrun") ⊎ (first ≢ codes "selfrun")
+        → BadOrNamed (first ∷ rest)
+    go (inl a) b c d e f = begun_by (codes "derive") first rest a (derive_or_bad rest)
+    go (inr a) (inl b) c d e f = begun_by (codes "pme") first rest b (pme_or_bad rest)
+    go (inr a) (inr b) (inl c) d e f = begun_by (codes "verify") first rest c (verify_or_bad rest)
+    go (inr a) (inr b) (inr c) (inl d) e f = begun_by (codes "make") first rest d (make_or_bad rest)
+    go (inr a) (inr b) (inr c) (inr d) (inl e) f = begun_by (codes "run") first rest e (run_or_bad rest)
+    go (inr a) (inr b) (inr c) (inr d) (inr e) (inl f) = begun_by (codes "selfrun") first rest f (selfrun_or_bad rest)
+    go (inr a) (inr b) (inr c) (inr d) (inr e) (inr f) = inl (bad_name first rest a b c d e f)

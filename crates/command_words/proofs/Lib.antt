@@ -1,6 +1,7 @@
 pub mod CommandWords
 pub mod NumberWords
 pub mod OneCommand
+pub mod PmeWords
 pub mod RunOptions
 pub mod VariantWords
 pub mod WordFronts

@@ -1,10 +1,21 @@
 -- The spelling of commands, computed on rows that were worked by hand.
-use Rattle.std.proofs.Common.{◌≡◌, true, false, [], ◌∷◌, refl}
+use Rattle.std.proofs.Common.{◌≡◌, true, false, [], ◌∷◌, map, refl}
 use Rattle.std.specs.Prelude.{codes}
 use Rattle.std.specs.Fmt.{digits}
 use Rattle.issue_list.specs.declared.choice.Choice.TheVariants.{First, Each}
-use Rattle.command_words.specs.declared.command.Command.TheVariants.{Make, Run, SelfRun}
-use Rattle.command_words.specs.Words.{words_of}
+use Rattle.command_words.specs.declared.command.Command.TheVariants.{Make, Pme, Run, SelfRun}
+use Rattle.command_words.specs.Words.{may_name, words_of}
+
+expression : words_of (Pme (codes "low") (codes "n" ∷ codes "m" ∷ [])) ≡ codes "pme" ∷ codes "low" ∷ codes "n" ∷ codes "m" ∷ []
+expression = refl
+
+-- a letter, then letters, digits and _, at most 32 bytes
+names : map may_name (codes "a" ∷ codes "Z_9b" ∷ codes "abcdefghijklmnopqrstuvwxyz_45678" ∷ []) ≡ true ∷ true ∷ true ∷ []
+names = refl
+
+no_names : map may_name ([] ∷ codes "9a" ∷ codes "_a" ∷ codes "a-b" ∷ codes "a " ∷ codes "+" ∷ codes "abcdefghijklmnopqrstuvwxyz_456789" ∷ [])
+    ≡ false ∷ false ∷ false ∷ false ∷ false ∷ false ∷ false ∷ []
+no_names = refl
 
 made : words_of (Make 0 4294967295 7) ≡ codes "make" ∷ codes "0" ∷ codes "4294967295" ∷ codes "7" ∷ []
 unfolding digits

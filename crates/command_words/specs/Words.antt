@@ -1,11 +1,12 @@
 -- The words of a command.
-use Rattle.std.specs.Prelude.{◌≡◌, ℕ, ◌≤◌, ◌<◌, ◌^◌, Bool, true, false, List, [], ◌∷◌, ◌++◌, length, map, All, codes, decimal}
-use Rattle.std.specs.List.{join_with_byte}
+use Rattle.std.specs.Prelude.{◌≡◌, ℕ, ◌≤◌, ◌<◌, ◌^◌, Bool, true, false, ◌&&◌, List, [], ◌∷◌, ◌++◌, length, map, All, IsTrue, codes, decimal}
+use Rattle.std.specs.List.{join_with_byte, list_all}
+use Rattle.text_scan.specs.Words.{is_name, is_word}
 use Rattle.issue_list.specs.declared.choice.Choice.{Choice}
 use Rattle.issue_list.specs.declared.choice.Choice.TheVariants.{First, Each}
 use Rattle.variant_report.specs.declared.self_words.SelfWords.{SelfWords}
 use Rattle.command_words.specs.declared.command.Command.{Command}
-use Rattle.command_words.specs.declared.command.Command.TheVariants.{Derive, Verify, Make, Run, SelfRun}
+use Rattle.command_words.specs.declared.command.Command.TheVariants.{Derive, Pme, Verify, Make, Run, SelfRun}
 use Rattle.command_words.specs.declared.command.RunWords.{RunWords}
 
 -- ---- the spelling
@@ -34,6 +35,7 @@ trace_words false = []
 -- the one spelling of a command
 abbrev pub words_of : Command → List (List ℕ)
 words_of Derive = codes "derive" ∷ []
+words_of (Pme op dims) = codes "pme" ∷ op ∷ dims
 words_of Verify = codes "verify" ∷ []
 words_of (Make n m seed) = codes "make" ∷ make_words n m seed
 words_of (Run words) =
@@ -44,6 +46,17 @@ words_of (SelfRun words) =
     ++ size_words words.block words.workers)
 
 -- ---- the ranges
+
+-- the word may name something in a text: it begins with a letter, has letters, digits and _, and at most 32 bytes
+abbrev pub may_name : List ℕ → Bool
+may_name w = is_word w && is_name w
+
+-- an operation's name, and the names of one dimension or two
+pub record ArePmeWords (op : List ℕ) (dims : List (List ℕ)) : Type 0 where
+  pub operation_named : IsTrue (may_name op)
+  pub some_dimension : 1 ≤ length dims
+  pub few_dimensions : length dims ≤ 2
+  pub dimensions_named : IsTrue (list_all may_name dims)
 
 pub record AreMakeNumbers (n m seed : ℕ) : Type 0 where
   pub n_high : n ≤ 1024
@@ -79,9 +92,10 @@ pub record AreSelfWords (words : SelfWords) : Type 0 where
   pub numbers : AreMakeNumbers words.n words.m words.seed
   pub sizes : AreSizes words.block words.workers
 
--- the numbers of a command are in range
+-- the names and numbers of a command are in range
 abbrev pub IsInRange : Command → Type 0
 IsInRange Derive = Unit {0}
+IsInRange (Pme op dims) = ArePmeWords op dims
 IsInRange Verify = Unit {0}
 IsInRange (Make n m seed) = AreMakeNumbers n m seed
 IsInRange (Run words) = AreRunWords words
@@ -99,16 +113,27 @@ AreBad words = (command : Command) → AreWordsOf words command → ⊥
 
 -- ---- which command it is
 
--- the command asks for families, a check of matrices, a generated job, a run, or the run of a generated job
+-- the command asks for families, a partitioned matrix expression, a check of matrices, a generated job, a run, or the run of a
+-- generated job
 abbrev pub AsksFamilies : Command → Type 0
 AsksFamilies Derive = Unit {0}
+AsksFamilies (Pme op dims) = ⊥
 AsksFamilies Verify = ⊥
 AsksFamilies (Make n m seed) = ⊥
 AsksFamilies (Run words) = ⊥
 AsksFamilies (SelfRun words) = ⊥
 
+abbrev pub AsksPme : Command → Type 0
+AsksPme Derive = ⊥
+AsksPme (Pme op dims) = Unit {0}
+AsksPme Verify = ⊥
+AsksPme (Make n m seed) = ⊥
+AsksPme (Run words) = ⊥
+AsksPme (SelfRun words) = ⊥
+
 abbrev pub AsksVerify : Command → Type 0
 AsksVerify Derive = ⊥
+AsksVerify (Pme op dims) = ⊥
 AsksVerify Verify = Unit {0}
 AsksVerify (Make n m seed) = ⊥
 AsksVerify (Run words) = ⊥
@@ -116,6 +141,7 @@ AsksVerify (SelfRun words) = ⊥
 
 abbrev pub AsksMake : Command → Type 0
 AsksMake Derive = ⊥
+AsksMake (Pme op dims) = ⊥
 AsksMake Verify = ⊥
 AsksMake (Make n m seed) = Unit {0}
 AsksMake (Run words) = ⊥
@@ -123,6 +149,7 @@ AsksMake (SelfRun words) = ⊥
 
 abbrev pub AsksRun : Command → Type 0
 AsksRun Derive = ⊥
+AsksRun (Pme op dims) = ⊥
 AsksRun Verify = ⊥
 AsksRun (Make n m seed) = ⊥
 AsksRun (Run words) = Unit {0}
@@ -130,6 +157,7 @@ AsksRun (SelfRun words) = ⊥
 
 abbrev pub AsksSelfRun : Command → Type 0
 AsksSelfRun Derive = ⊥
+AsksSelfRun (Pme op dims) = ⊥
 AsksSelfRun Verify = ⊥
 AsksSelfRun (Make n m seed) = ⊥
 AsksSelfRun (Run words) = ⊥
@@ -138,6 +166,7 @@ AsksSelfRun (SelfRun words) = Unit {0}
 -- the command reads a job; one that is generated needs no input
 abbrev pub ReadsInput : Command → Type 0
 ReadsInput Derive = Unit {0}
+ReadsInput (Pme op dims) = Unit {0}
 ReadsInput Verify = Unit {0}
 ReadsInput (Make n m seed) = ⊥
 ReadsInput (Run words) = Unit {0}

@@ -4,6 +4,7 @@ ghost use Rattle.std.specs.Prelude.{◌≡◌};
 ghost use Rattle.command_words.specs.Words.{workers_of};
 
 use issue_list::Choice;
+use text_scan::{Name, NameList};
 use variant_report::SelfWords;
 
 /// How a job is run and what is printed of it.
@@ -24,6 +25,9 @@ pub struct RunWords {
 pub enum Command {
     /// `derive`: prints the family of each operation of the input's job.
     Derive,
+    /// `pme OP D` or `pme OP D D`: prints the partitioned matrix expression of an operation of the input's job, with two parts
+    /// in each of the dimensions.
+    Pme { op: Name, dims: NameList },
     /// `verify`: checks the matrices behind the input's job.
     Verify,
     /// `make N M SEED`: prints the job that is generated for size N (0 to 1,024), modulus M (from 2 on) and a seed.
@@ -42,7 +46,7 @@ impl Command {
         match self {
             Command::Run { words } => words.workers,
             Command::SelfRun { words } => words.workers,
-            Command::Derive | Command::Verify | Command::Make { .. } => 1,
+            Command::Derive | Command::Pme { .. } | Command::Verify | Command::Make { .. } => 1,
         }
     }
 }

@@ -5,6 +5,7 @@ ghost use Rattle.command_words.specs.Words.{AreBad, AreWordsOf};
 
 use crate::command::{Command, RunWords};
 use crate::fronts::{make_numbers, size_numbers};
+use crate::names::{are_pme_words, name_of, names_of};
 use crate::options::options_of;
 use std::alloc::{AllocError, Global};
 use variant_report::SelfWords;
@@ -19,6 +20,23 @@ fn derive_of(words: &[String]) -> Option<Command>
     } else {
         None
     }
+}
+
+/// `pme`, and the names of an operation and of one dimension or two behind it.
+fn pme_of(alloc: Global, words: &[String]) -> Result<Option<Command>, AllocError>
+    ensures { IfOk result (λ found. MatchOption found
+        (AreBad (codes "pme" ∷ map string_bytes words.now))
+        (AreWordsOf (codes "pme" ∷ map string_bytes words.now))) }
+{
+    let Some((op, dims)) = words.split_first() else {
+        return Ok(None);
+    };
+    if !are_pme_words(op.as_str(), dims) {
+        return Ok(None);
+    }
+    let op = name_of(alloc, op.as_str())?;
+    let dims = names_of(alloc, dims)?;
+    Ok(Some(Command::Pme { op, dims }))
 }
 
 /// `verify`, and nothing behind it.
@@ -100,6 +118,8 @@ fn command_of(alloc: Global, first: &str, words: &[String]) -> Result<Option<Com
 {
     if first == "derive" {
         Ok(derive_of(words))
+    } else if first == "pme" {
+        pme_of(alloc, words)
     } else if first == "verify" {
         Ok(verify_of(words))
     } else if first == "make" {

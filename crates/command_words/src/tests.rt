@@ -35,7 +35,8 @@ fn the_words_of_a_run_are_read(rt: HostRuntime) -> Result<(), Fail> {
             "--trace",
         ],
     )?;
-    match read_words(alloc, &words)? {
+    let read = read_words(alloc, &words)?;
+    match &read {
         Some(Command::Run { words }) => {
             assert_eq!(rt; words.block, 1024);
             assert_eq!(rt; words.workers, 1);

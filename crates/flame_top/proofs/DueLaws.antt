@@ -10,7 +10,7 @@ use Rattle.job_text.specs.SpelledJobs.{job_in}
 use Rattle.job_text.specs.JobTexts.{job_text}
 use Rattle.job_generator.specs.GeneratedJobs.{generated_job}
 use Rattle.command_words.specs.declared.command.Command.{Command}
-use Rattle.command_words.specs.declared.command.Command.TheVariants.{Derive, Make, Run, SelfRun, Verify}
+use Rattle.command_words.specs.declared.command.Command.TheVariants.{Derive, Make, Pme, Run, SelfRun, Verify}
 use Rattle.command_words.specs.Words.{IsInRange}
 use Rattle.command_words.proofs.OneCommand.{one_command}
 use Rattle.flame_top.specs.Refusals.{refusal_text}
@@ -18,10 +18,12 @@ use Rattle.flame_top.specs.Derive.{DueFamilies, families_text}
 use Rattle.flame_top.specs.Due.{DueInput, DueCommand, Due}
 use Rattle.flame_top.specs.DueTexts.{DueShort, Says}
 use Rattle.flame_top.specs.Make.{DueMake}
+use Rattle.flame_top.specs.Pme.{DuePme}
 use Rattle.flame_top.specs.Run.{DueRun}
 use Rattle.flame_top.specs.SameTexts.{HasOneText, HasOneTextOf}
 use Rattle.flame_top.specs.SelfRun.{DueSelfRun}
 use Rattle.flame_top.specs.Verify.{DueVerify}
+use Rattle.flame_top.proofs.PmeLaws.{same_pme}
 use Rattle.flame_top.proofs.RunLaws.{SameText, same_itself, same_run}
 use Rattle.flame_top.proofs.SameDue.{AreAlike, IsDetermined, Same, alike_determined, alike_same, same_says}
 use Rattle.flame_top.proofs.SelfRunLaws.{same_selfrun}
@@ -65,6 +67,8 @@ determined_for command due = alike_determined (SameFor command) (same_itself (Ha
 same_input : (command : Command) → IsInRange command → (input : List ℕ) → AreAlike (SameFor command) (DueInput command input) (DueInput command input)
 same_input Derive range input =
     alike_short (SameFor Derive) (same_itself (HasOneTextOf Derive)) DueFamilies (λ job valid. determined_for Derive (DueFamilies job) (same_families job)) input
+same_input (Pme op dims) range input = alike_short (SameFor (Pme op dims)) (same_itself (HasOneTextOf (Pme op dims))) (DuePme op dims)
+    (λ job valid. determined_for (Pme op dims) (DuePme op dims job) (same_pme op dims job)) input
 same_input Verify range input = determined_for Verify (DueVerify input) (same_verify input)
 same_input (Make n m seed) range input =
     determined_for (Make n m seed) (DueMake n m seed) (λ status other text different. same_says 0 (job_text (generated_job n m seed)) status other text different)

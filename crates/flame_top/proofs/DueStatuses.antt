@@ -6,18 +6,20 @@ use Rattle.issue_list.specs.declared.choice.Choice.{Choice}
 use Rattle.issue_list.specs.declared.choice.Choice.TheVariants.{First}
 use Rattle.variant_report.specs.declared.self_words.SelfWords.{SelfWords}
 use Rattle.command_words.specs.declared.command.Command.{Command}
-use Rattle.command_words.specs.declared.command.Command.TheVariants.{Derive, Make, Run, SelfRun, Verify}
+use Rattle.command_words.specs.declared.command.Command.TheVariants.{Derive, Make, Pme, Run, SelfRun, Verify}
 use Rattle.command_words.specs.declared.command.RunWords.{RunWords}
 use Rattle.command_words.specs.Words.{AreBad}
 use Rattle.flame_top.specs.Derive.{DueFamilies}
 use Rattle.flame_top.specs.Due.{Due, DueCommand, DueInput}
 use Rattle.flame_top.specs.DueTexts.{DueShort}
 use Rattle.flame_top.specs.Meaning.{DueMeaning, PrintedText}
+use Rattle.flame_top.specs.Pme.{DuePme}
 use Rattle.flame_top.specs.Run.{DueEvents, DueRun, run_text}
 use Rattle.flame_top.specs.SelfRun.{DueSelfRun, job_of, self_text}
 use Rattle.flame_top.specs.Steps.{DueBySteps}
 use Rattle.flame_top.specs.Verify.{DueVerify}
 use Rattle.flame_top.specs.Answers.{IsDueStatus}
+use Rattle.flame_top.proofs.PmeLaws.{pme_status}
 use Rattle.flame_top.proofs.StepsLaws.{refused_status}
 
 zero_is_due : (status : ℕ) → status ≡ 0 → IsDueStatus status
@@ -40,6 +42,12 @@ short_is_due due of_job input status text (inr fault) = refusal_is_due status fa
 
 families_are_due : (job : Job) (status : ℕ) (text : List ℕ) → DueFamilies job status text → IsDueStatus status
 families_are_due job status text families = zero_is_due status families.0
+
+pme_is_due : (op : List ℕ) (dims : List (List ℕ)) (job : Job) (status : ℕ) (text : List ℕ) → DuePme op dims job status text → IsDueStatus status
+pme_is_due op dims job status text due = elim (pme_status op dims job status text due) [
+  | inl printed ↦ zero_is_due status printed
+  | inr refused ↦ refusal_is_due status refused
+]
 
 meaning_is_due : (job : Job) (printed : PrintedText) (status : ℕ) (text : List ℕ) → DueMeaning job printed status text → IsDueStatus status
 meaning_is_due job printed status text (inl result) = zero_is_due status result.2.0
@@ -66,6 +74,7 @@ verify_is_due input status text (inr fault) = refusal_is_due status fault.2
 
 input_is_due : (command : Command) (input : List ℕ) (status : ℕ) (text : List ℕ) → DueInput command input status text → IsDueStatus status
 input_is_due Derive input status text due = short_is_due DueFamilies families_are_due input status text due
+input_is_due (Pme op dims) input status text due = short_is_due (DuePme op dims) (pme_is_due op dims) input status text due
 input_is_due Verify input status text due = verify_is_due input status text due
 input_is_due (Make n m seed) input status text due = zero_is_due status due.0
 input_is_due (Run words) input status text due = short_is_due (DueRun words) (run_is_due words) input status text due

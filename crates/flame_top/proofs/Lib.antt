@@ -5,6 +5,7 @@ mod EventsAlone
 mod FirstLong
 mod JoinedTexts
 mod MeaningLaws
+mod PmeLaws
 mod QuietStreams
 mod ReadingCommands
 mod RunLaws
@@ -14,5 +15,6 @@ mod SomethingDue
 mod StepsLaws
 mod VerifiedStatements
 mod VerifyLaws
+mod WorkedNames
 mod WorkedRows
 mod WorkedRuns

@@ -3,10 +3,12 @@ pub mod Derive
 pub mod Due
 pub mod DueTexts
 pub mod Events
+pub mod Going
 pub mod Listings
 pub mod Make
 pub mod Meaning
 pub mod Plannings
+pub mod Pme
 pub mod Refusals
 pub mod Run
 pub mod SameTexts

@@ -31,6 +31,13 @@ kind_text Alias = codes "Alias"
 abbrev pub refusal_text : Fault → List ℕ
 refusal_text fault = kind_at (kind_text fault.kind) fault.line
 
+-- a job without the operation that is asked for, and an operation without the split
+abbrev pub no_operation_text : List ℕ
+no_operation_text = codes "refused NoOperation\n"
+
+abbrev pub no_split_text : List ℕ
+no_split_text = codes "refused NoSplit\n"
+
 -- numbers of variants that are not as many as the statements
 abbrev pub variant_count_text : ℕ → ℕ → List ℕ
 variant_count_text given due = codes "refused VariantCount given " ++ decimal given ++ codes " due " ++ decimal due ++ codes "\n"

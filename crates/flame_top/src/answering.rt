@@ -1,25 +1,26 @@
-//! What every command does: its input is read whole, its output is composed, and then it is written. The calls whose
-//! names have `many` do so with several workers.
+//! What every command does: its input is read whole, its output is composed, and then it is written. The closure `go` is how the
+//! command's workers go through the steps of a job (`workers`); a command that goes through none doesn't call it.
 
 ghost use Rattle.std.specs.Prelude.{◌≡◌, ◌≢◌, ◌≤◌, ◌⊎◌, List, ℕ, length, IfOk, IsErrOf, codes};
 ghost use Rattle.std.specs.Io.KnownBytes.{Consumes, IsAtEnd};
 ghost use Rattle.outside_io.specs.Causes.{Rose};
 ghost use Rattle.flame_top.specs.Due.{DueCommand, DueInput};
 ghost use Rattle.flame_top.specs.Answers.{Answers, IsDueStatus, Delivers, DueFrom, state_of};
+ghost use Rattle.flame_top.specs.Going.{Goes};
 ghost use Rattle.command_words.specs.Words.{IsInRange, ReadsInput, workers_of};
 ghost use Rattle.flame_top.specs.declared.answering.Halt.TheVariants.{Memory};
 
 use crate::derive::derive_output;
 use crate::make::make_output;
 use crate::output::Output;
-use crate::run::{run_many_output, run_output};
-use crate::selfrun::{selfrun_many_output, selfrun_output};
+use crate::pme::pme_output;
+use crate::run::run_output;
+use crate::selfrun::selfrun_output;
 use crate::verify::verify_output;
 use command_words::Command;
-use outside_io::{Failed, Gate, ReadEnd, Sink, Source, read_all, write_all};
+use dispatcher::{Finished, Plan};
+use outside_io::{Failed, ReadEnd, Sink, Source, read_all, write_all};
 use std::alloc::{AllocError, Global};
-use std::sync::Wait;
-use std::thread::Threads;
 
 /// An input may have so many bytes.
 const LIMIT: u32 = 67_108_864;
@@ -43,7 +44,8 @@ impl From<AllocError> for Halt {
 
 /// The refusal of an input that is too long.
 fn too_long(alloc: Global) -> Result<Output, AllocError>
-    ensures { IfOk result (λ output. (output.status ≡ 3) × (output.text.items ≡ codes "refused TooLong\n")) }
+    ensures { IfOk result (λ output.
+        (output.status ≡ 3) × (output.text.items ≡ codes "refused TooLong\n")) }
 {
     Ok(Output {
         status: 3,
@@ -52,8 +54,13 @@ fn too_long(alloc: Global) -> Result<Output, AllocError>
 }
 
 /// Composes the output of a command for an input, which a command that reads none doesn't look at.
-fn input_output(alloc: Global, command: &Command, bytes: &[u8]) -> Result<Output, AllocError>
-    requires one { workers_of command.now ≡ 1 }
+fn input_output<F: FnOnce(&Plan<'_>) -> Result<Finished, AllocError>>(
+    alloc: Global,
+    command: &Command,
+    bytes: &[u8],
+    go: F,
+) -> Result<Output, AllocError>
+    requires goes { Goes F.FnOnce go (workers_of command.now) }
     requires range { IsInRange command.now }
     requires short { length bytes.now ≤ 67108864 }
     ensures { IfOk result (λ output.
@@ -61,78 +68,36 @@ fn input_output(alloc: Global, command: &Command, bytes: &[u8]) -> Result<Output
 {
     match command {
         Command::Derive => Ok(derive_output(alloc, bytes)?),
+        Command::Pme { op, dims } => {
+            Ok(pme_output(alloc, bytes, op.as_slice(), dims.as_slice())?)
+        }
         Command::Verify => Ok(verify_output(alloc, bytes)?),
         Command::Make { n, m, seed } => Ok(make_output(alloc, *n, *m, *seed)?),
-        Command::Run { words } => Ok(run_output(alloc, bytes, words)?),
-        Command::SelfRun { words } => Ok(selfrun_output(alloc, *words)?),
-    }
-}
-
-/// Composes the output of a run by several workers for an input, which a generated job doesn't look at.
-fn input_many_output<R: Threads + Wait + Sync, G: Gate>(
-    rt: &R,
-    alloc: Global,
-    command: &Command,
-    bytes: &[u8],
-    gate: &G,
-) -> Result<Output, AllocError>
-    requires many { 2 ≤ workers_of command.now }
-    requires range { IsInRange command.now }
-    requires short { length bytes.now ≤ 67108864 }
-    ensures { IfOk result (λ output.
-        DueInput command.now bytes.now output.status output.text.items) }
-{
-    match command {
-        Command::Run { words } => Ok(run_many_output(rt, alloc, bytes, words, gate)?),
-        Command::SelfRun { words } => Ok(selfrun_many_output(rt, alloc, *words, gate)?),
-        Command::Derive | Command::Verify | Command::Make { .. } => unreachable!(),
+        Command::Run { words } => Ok(run_output(alloc, bytes, words, go)?),
+        Command::SelfRun { words } => Ok(selfrun_output(alloc, *words, go)?),
     }
 }
 
 /// Reads the source to its end, and composes the output of a command.
-fn command_output<S: Source>(
+fn command_output<S: Source, F: FnOnce(&Plan<'_>) -> Result<Finished, AllocError>>(
     alloc: Global,
     command: &Command,
     source: &mut S,
+    go: F,
 ) -> Result<Output, Halt>
-    requires one { workers_of command.now ≡ 1 }
+    requires goes { Goes F.FnOnce go (workers_of command.now) }
     requires range { IsInRange command.now }
     requires reads { ReadsInput command.now }
     ensures due { IfOk result (λ output. DueFrom (DueCommand command.now) (S.left source.old)
         output.status output.text.items) }
-    ensures read_fault { IsErrOf result Halt.ReadFault → Rose (S.faults source.old) (S.faults source.new) }
+    ensures read_fault { IsErrOf result Halt.ReadFault →
+        Rose (S.faults source.old) (S.faults source.new) }
     ensures quiet { result ≢ Err Halt.ReadFault → S.faults source.new ≡ S.faults source.old }
     ensures taken { (front : List ℕ) × Consumes (S.left source.old) (S.left source.new) front }
     ensures ended { IfOk result (λ output. output.status ≢ 3 → IsAtEnd (S.left source.new)) }
 {
     match read_all(alloc, source, LIMIT) {
-        Ok(bytes) => Ok(input_output(alloc, command, &bytes)?),
-        Err(ReadEnd::TooLong) => Ok(too_long(alloc)?),
-        Err(ReadEnd::ReadFault) => Err(Halt::ReadFault),
-        Err(ReadEnd::Memory) => Err(Halt::Memory),
-    }
-}
-
-/// Reads the source to its end, and composes the output of a run by several workers.
-fn command_many_output<R: Threads + Wait + Sync, S: Source, G: Gate>(
-    rt: &R,
-    alloc: Global,
-    command: &Command,
-    source: &mut S,
-    gate: &G,
-) -> Result<Output, Halt>
-    requires many { 2 ≤ workers_of command.now }
-    requires range { IsInRange command.now }
-    requires reads { ReadsInput command.now }
-    ensures due { IfOk result (λ output. DueFrom (DueCommand command.now) (S.left source.old)
-        output.status output.text.items) }
-    ensures read_fault { IsErrOf result Halt.ReadFault → Rose (S.faults source.old) (S.faults source.new) }
-    ensures quiet { result ≢ Err Halt.ReadFault → S.faults source.new ≡ S.faults source.old }
-    ensures taken { (front : List ℕ) × Consumes (S.left source.old) (S.left source.new) front }
-    ensures ended { IfOk result (λ output. output.status ≢ 3 → IsAtEnd (S.left source.new)) }
-{
-    match read_all(alloc, source, LIMIT) {
-        Ok(bytes) => Ok(input_many_output(rt, alloc, command, &bytes, gate)?),
+        Ok(bytes) => Ok(input_output(alloc, command, &bytes, go)?),
         Err(ReadEnd::TooLong) => Ok(too_long(alloc)?),
         Err(ReadEnd::ReadFault) => Err(Halt::ReadFault),
         Err(ReadEnd::Memory) => Err(Halt::Memory),
@@ -142,7 +107,8 @@ fn command_many_output<R: Threads + Wait + Sync, S: Source, G: Gate>(
 /// Writes a text, and answers its status, or 6 where the sink failed.
 pub fn deliver<K: Sink>(sink: &mut K, status: u8, text: &[u8]) -> u8
     requires { IsDueStatus status }
-    ensures { Delivers status text.now (state_of K.held K.faults sink.old) (state_of K.held K.faults sink.new) result }
+    ensures { Delivers status text.now
+        (state_of K.held K.faults sink.old) (state_of K.held K.faults sink.new) result }
 {
     match write_all(sink, text) {
         Ok(()) => status,
@@ -151,13 +117,14 @@ pub fn deliver<K: Sink>(sink: &mut K, status: u8, text: &[u8]) -> u8
 }
 
 /// Reads the source to its end, composes the output of the command, and writes it.
-pub fn answer_command<S: Source, K: Sink>(
+pub fn answer_command<S: Source, K: Sink, F: FnOnce(&Plan<'_>) -> Result<Finished, AllocError>>(
     alloc: Global,
     command: &Command,
     source: &mut S,
     sink: &mut K,
+    go: F,
 ) -> u8
-    requires one { workers_of command.now ≡ 1 }
+    requires goes { Goes F.FnOnce go (workers_of command.now) }
     requires range { IsInRange command.now }
     requires reads { ReadsInput command.now }
     ensures answers { Answers (DueCommand command.now)
@@ -166,32 +133,7 @@ pub fn answer_command<S: Source, K: Sink>(
     ensures ended { IsDueStatus result → result ≢ 3 → IsAtEnd (S.left source.new) }
     ensures untouched { (result ≡ 1) ⊎ (result ≡ 5) → sink.new ≡ sink.old }
 {
-    match command_output(alloc, command, source) {
-        Ok(output) => deliver(sink, output.status, &output.text),
-        Err(Halt::Memory) => 5,
-        Err(Halt::ReadFault) => 1,
-    }
-}
-
-/// Reads the source to its end, composes the output of a run by several workers, and writes it.
-pub fn answer_many<R: Threads + Wait + Sync, S: Source, K: Sink, G: Gate>(
-    rt: &R,
-    alloc: Global,
-    command: &Command,
-    source: &mut S,
-    sink: &mut K,
-    gate: &G,
-) -> u8
-    requires many { 2 ≤ workers_of command.now }
-    requires range { IsInRange command.now }
-    requires reads { ReadsInput command.now }
-    ensures answers { Answers (DueCommand command.now)
-        (state_of S.left S.faults source.old) (state_of S.left S.faults source.new)
-        (state_of K.held K.faults sink.old) (state_of K.held K.faults sink.new) result }
-    ensures ended { IsDueStatus result → result ≢ 3 → IsAtEnd (S.left source.new) }
-    ensures untouched { (result ≡ 1) ⊎ (result ≡ 5) → sink.new ≡ sink.old }
-{
-    match command_many_output(rt, alloc, command, source, gate) {
+    match command_output(alloc, command, source, go) {
         Ok(output) => deliver(sink, output.status, &output.text),
         Err(Halt::Memory) => 5,
         Err(Halt::ReadFault) => 1,
@@ -199,13 +141,14 @@ pub fn answer_many<R: Threads + Wait + Sync, S: Source, K: Sink, G: Gate>(
 }
 
 /// Composes the output of a command that reads no input, and writes it. The source stays as it is.
-pub fn answer_alone<S: Source, K: Sink>(
+pub fn answer_alone<S: Source, K: Sink, F: FnOnce(&Plan<'_>) -> Result<Finished, AllocError>>(
     alloc: Global,
     command: &Command,
     source: &mut S,
     sink: &mut K,
+    go: F,
 ) -> u8
-    requires one { workers_of command.now ≡ 1 }
+    requires goes { Goes F.FnOnce go (workers_of command.now) }
     requires range { IsInRange command.now }
     requires alone { ¬ (ReadsInput command.now) }
     ensures answers { Answers (DueCommand command.now)
@@ -214,31 +157,7 @@ pub fn answer_alone<S: Source, K: Sink>(
     ensures unread { (source.new ≡ source.old) × (result ≢ 1) }
     ensures untouched { result ≡ 5 → sink.new ≡ sink.old }
 {
-    match input_output(alloc, command, b"") {
-        Ok(output) => deliver(sink, output.status, &output.text),
-        Err(AllocError) => 5,
-    }
-}
-
-/// Composes the output of a run of the generated job by several workers, and writes it. The source stays as it is.
-pub fn answer_many_alone<R: Threads + Wait + Sync, S: Source, K: Sink, G: Gate>(
-    rt: &R,
-    alloc: Global,
-    command: &Command,
-    source: &mut S,
-    sink: &mut K,
-    gate: &G,
-) -> u8
-    requires many { 2 ≤ workers_of command.now }
-    requires range { IsInRange command.now }
-    requires alone { ¬ (ReadsInput command.now) }
-    ensures answers { Answers (DueCommand command.now)
-        (state_of S.left S.faults source.old) (state_of S.left S.faults source.new)
-        (state_of K.held K.faults sink.old) (state_of K.held K.faults sink.new) result }
-    ensures unread { (source.new ≡ source.old) × (result ≢ 1) }
-    ensures untouched { result ≡ 5 → sink.new ≡ sink.old }
-{
-    match input_many_output(rt, alloc, command, b"", gate) {
+    match input_output(alloc, command, b"", go) {
         Ok(output) => deliver(sink, output.status, &output.text),
         Err(AllocError) => 5,
     }

@@ -12,6 +12,7 @@ ghost use Rattle.command_words.specs.Words.{AsksFamilies};
 
 use crate::answering::answer_command;
 use crate::output::{Output, fault_output};
+use crate::workers::go_alone;
 use command_words::Command;
 use equation::Job;
 use invariant_family::family;
@@ -53,7 +54,8 @@ fn families_output(alloc: Global, job: &Job) -> Result<Output, AllocError>
 /// The families of the job that the bytes spell.
 pub fn derive_output(alloc: Global, bytes: &[u8]) -> Result<Output, AllocError>
     requires { length bytes.now ≤ 67108864 }
-    ensures { IfOk result (λ output. DueShort DueFamilies bytes.now output.status output.text.items) }
+    ensures { IfOk result (λ output.
+        DueShort DueFamilies bytes.now output.status output.text.items) }
 {
     match read_job(alloc, bytes, Stop::Nothing) {
         Ok((job, _)) => Ok(families_output(alloc, &job)?),
@@ -78,5 +80,5 @@ pub fn derive_cmd<S: Source, K: Sink>(
     ensures ended { IsDueStatus result → result ≢ 3 → IsAtEnd (S.left source.new) }
     ensures untouched { (result ≡ 1) ⊎ (result ≡ 5) → sink.new ≡ sink.old }
 {
-    answer_command(alloc, command, source, sink)
+    answer_command(alloc, command, source, sink, |plan| go_alone(alloc, plan))
 }

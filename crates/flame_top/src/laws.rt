@@ -32,7 +32,8 @@ pub fn due_is_determined()
 
 /// For all words and each input a status and a text are due.
 pub fn something_is_due()
-    ensures { (words : List (List ℕ)) (input : List ℕ) → (status : ℕ) × (text : List ℕ) × Due words input status text }
+    ensures { (words : List (List ℕ)) (input : List ℕ)
+        → (status : ℕ) × (text : List ℕ) × Due words input status text }
 {}
 
 /// Neither the variants nor the block size change a result: where a job is refused under neither of two lists of words that ask for
@@ -72,10 +73,12 @@ pub fn no_selfrun_meets_a_bad_pivot()
 /// status is neither 1 nor 6, and unless it is 5 the status and the text that are due for the whole input have come, the text
 /// behind what the sink held and nothing else.
 pub fn quiet_streams_get_the_whole_text()
-    ensures { (words : List (List ℕ)) (source source_after sink sink_after : StreamState) (status : ℕ) (input held : List ℕ)
+    ensures { (words : List (List ℕ)) (source source_after sink sink_after : StreamState)
+        (status : ℕ) (input held : List ℕ)
         → Answers (Due words) source source_after sink sink_after status
         → source.bytes ≡ Some input → sink.bytes ≡ Some held
         → ¬ (Rose source.faults source_after.faults) → ¬ (Rose sink.faults sink_after.faults)
         → (status ≢ 1) × (status ≢ 6)
-        × (status ≢ 5 → (text : List ℕ) × Due words input status text × (sink_after.bytes ≡ Some (held ++ text))) }
+        × (status ≢ 5 → (text : List ℕ) × Due words input status text
+        × (sink_after.bytes ≡ Some (held ++ text))) }
 {}

@@ -1,13 +1,13 @@
 //! The call that does all that the program does.
 //!
 //! The words name a command (crate `command_words`). A command has a file with its call, its output and the calls that compose it
-//! (`derive`, `make`, `run`, `selfrun`, `verify`), and in `specs/`, under the same name, the relation of what is due for it. What
+//! (`derive`, `make`, `pme`, `run`, `selfrun`, `verify`), and in `specs/`, under the same name, the relation of what is due for it. What
 //! all of them do stands in `answering`: the input, where the command reads one, is read whole, the output is composed, and only
-//! then is the first byte written. `steps` lists the steps of a job, or refuses it, and `meaning` goes through them and prints what
-//! they come to; `run` and `selfrun` go by both, with one worker or with several on threads (`workers`). Each fault of
-//! the text is refused by name (`refusals`). `program` holds `top`, which joins them, and `laws` tells that exactly one status is due,
-//! and one text but for the schedule of several workers, and that neither the variants nor the block size nor the workers change a
-//! result.
+//! then is the first byte written. `steps` lists the steps of a job, or refuses it, and `workers` go through them, one in the thread
+//! that calls or several on threads: the call of a command hands down, as a closure, which of the two. `run` and `selfrun` print
+//! what the steps come to, by `meaning` where that is a bad pivot. Each fault of the text is refused by name (`refusals`). `program`
+//! holds `top`, which joins them, and `laws` tells that exactly one status is due, and one text but for the schedule of several
+//! workers, and that neither the variants nor the block size nor the workers change a result.
 #![tactic(auto)]
 
 mod answering;
@@ -16,6 +16,7 @@ mod laws;
 mod make;
 mod meaning;
 mod output;
+mod pme;
 mod program;
 mod refusals;
 mod run;
@@ -31,6 +32,7 @@ pub use laws::{
     something_is_due, variants_and_block_sizes_change_no_result, workers_change_no_result,
 };
 pub use make::make_cmd;
+pub use pme::pme_cmd;
 pub use program::top;
 pub use run::{run_many_cmd, run_one_cmd};
 pub use selfrun::{selfrun_many_cmd, selfrun_one_cmd};

@@ -8,6 +8,7 @@ ghost use Rattle.flame_top.specs.Make.{DueMake};
 
 use crate::answering::answer_alone;
 use crate::output::Output;
+use crate::workers::go_alone;
 use command_words::Command;
 use field_word::Modulus;
 use job_generator::generate;
@@ -57,5 +58,5 @@ pub fn make_cmd<S: Source, K: Sink>(
     ensures unread { (source.new ≡ source.old) × (result ≢ 1) }
     ensures untouched { result ≡ 5 → sink.new ≡ sink.old }
 {
-    answer_alone(alloc, command, source, sink)
+    answer_alone(alloc, command, source, sink, |plan| go_alone(alloc, plan))
 }

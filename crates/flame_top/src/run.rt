@@ -5,23 +5,23 @@ ghost use Rattle.std.specs.Io.KnownBytes.{IsAtEnd};
 ghost use Rattle.equation.specs.Jobs.{IsJob};
 ghost use Rattle.equation.specs.Meanings.{Means};
 ghost use Rattle.issue_list.specs.CanonicalSteps.{most_steps};
-ghost use Rattle.task_values.specs.Outcomes.{IsMeaning};
 ghost use Rattle.variant_report.specs.ResultTexts.{result_text};
 ghost use Rattle.command_words.specs.Words.{AreRunWords, AsksRun, IsInRange, workers_of};
+ghost use Rattle.dispatcher.specs.Plans.{IsPlan};
 ghost use Rattle.flame_top.specs.Answers.{Answers, IsDueStatus, state_of};
 ghost use Rattle.flame_top.specs.Due.{DueCommand};
 ghost use Rattle.flame_top.specs.DueTexts.{DueShort};
-ghost use Rattle.flame_top.specs.Events.{AreEventsOf};
+ghost use Rattle.flame_top.specs.Going.{Goes, IsFinished};
 ghost use Rattle.flame_top.specs.Meaning.{DueResult};
 ghost use Rattle.flame_top.specs.Plannings.{IsPlanned};
 ghost use Rattle.flame_top.specs.Run.{DueEvents, DueRun, trace_part};
 ghost use Rattle.flame_top.specs.Steps.{steps_by};
 
-use crate::answering::{answer_command, answer_many};
+use crate::answering::answer_command;
 use crate::meaning::bad_pivot_output;
 use crate::output::{Output, fault_output};
 use crate::steps::{Listing, list_steps};
-use crate::workers::{go_alone, go_together};
+use crate::workers::{finish, go_alone, go_together};
 use command_words::{Command, RunWords};
 use dispatcher::{Finished, Plan};
 use equation::{Job, Place};
@@ -45,7 +45,8 @@ fn put_trace(
     out: &mut Vec<u8>,
 ) -> Result<(), AllocError>
     requires { length steps.now ≤ most_steps }
-    ensures { OnOk result (out.new.items ≡ out.old.items ++ trace_part trace steps.now schedule.now) }
+    ensures { OnOk result
+        (out.new.items ≡ out.old.items ++ trace_part trace steps.now schedule.now) }
 {
     if !trace {
         return Ok(());
@@ -87,8 +88,7 @@ fn finished_output(
     requires job { IsJob job.now }
     requires steps { steps.now ≡ steps_by job.now words.now.block words.now.choice }
     requires few { length steps.now ≤ most_steps }
-    requires events { AreEventsOf words.now.workers steps.now finished.schedule }
-    requires meaning { IsMeaning job.now finished.outcome }
+    requires finished { IsFinished job.now steps.now words.now.workers finished }
     ensures { IfOk result (λ output.
         DueEvents words.now job.now output.status output.text.items) }
 {
@@ -132,46 +132,22 @@ fn plan_run(alloc: Global, bytes: &[u8], words: &RunWords) -> Result<Planned, Al
     }
 }
 
-/// A run, by one worker, of the job that the bytes spell.
-pub fn run_output(alloc: Global, bytes: &[u8], words: &RunWords) -> Result<Output, AllocError>
-    requires short { length bytes.now ≤ 67108864 }
-    requires range { AreRunWords words.now }
-    requires one { words.now.workers ≡ 1 }
-    ensures { IfOk result (λ output.
-        DueShort (DueRun words.now) bytes.now output.status output.text.items) }
-{
-    match plan_run(alloc, bytes, words)? {
-        Planned::Run { job, steps } => {
-            let finished = go_alone(alloc, &job, words.block, &steps)?;
-            Ok(finished_output(alloc, &job, words, &steps, finished)?)
-        }
-        Planned::Refused(output) => Ok(output),
-    }
-}
-
-/// A run, by several workers, of the job that the bytes spell.
-pub fn run_many_output<R: Threads + Wait + Sync, G: Gate>(
-    rt: &R,
+/// A run of the job that the bytes spell.
+pub fn run_output<F: FnOnce(&Plan<'_>) -> Result<Finished, AllocError>>(
     alloc: Global,
     bytes: &[u8],
     words: &RunWords,
-    gate: &G,
+    go: F,
 ) -> Result<Output, AllocError>
     requires short { length bytes.now ≤ 67108864 }
     requires range { AreRunWords words.now }
-    requires many { 2 ≤ words.now.workers }
+    requires goes { Goes F.FnOnce go words.now.workers }
     ensures { IfOk result (λ output.
         DueShort (DueRun words.now) bytes.now output.status output.text.items) }
 {
     match plan_run(alloc, bytes, words)? {
         Planned::Run { job, steps } => {
-            let plan = Plan {
-                job: &job,
-                b: words.block,
-                steps: &steps,
-                workers: words.workers,
-            };
-            let finished = go_together(rt, alloc, &plan, gate)?;
+            let finished = finish(&job, words.block, &steps, words.workers, go)?;
             Ok(finished_output(alloc, &job, words, &steps, finished)?)
         }
         Planned::Refused(output) => Ok(output),
@@ -210,7 +186,7 @@ pub fn run_one_cmd<S: Source, K: Sink>(
     ensures ended { IsDueStatus result → result ≢ 3 → IsAtEnd (S.left source.new) }
     ensures untouched { (result ≡ 1) ⊎ (result ≡ 5) → sink.new ≡ sink.old }
 {
-    answer_command(alloc, command, source, sink)
+    answer_command(alloc, command, source, sink, |plan| go_alone(alloc, plan))
 }
 
 /// Runs the job of the input with two to sixteen workers on threads: it does what `run_one_cmd` does, with each block
@@ -234,5 +210,14 @@ pub fn run_many_cmd<R: Threads + Wait + Sync, S: Source, K: Sink, G: Gate>(
     ensures ended { IsDueStatus result → result ≢ 3 → IsAtEnd (S.left source.new) }
     ensures untouched { (result ≡ 1) ⊎ (result ≡ 5) → sink.new ≡ sink.old }
 {
-    answer_many(rt, alloc, command, source, sink, gate)
+    answer_command(
+        alloc,
+        command,
+        source,
+        sink,
+        |plan|
+            requires plan { IsPlan plan.now }
+            requires many { 2 ≤ plan.now.workers }
+        { go_together(rt, alloc, plan, gate) },
+    )
 }

@@ -7,19 +7,22 @@ ghost use Rattle.issue_list.specs.CanonicalSteps.{most_steps};
 ghost use Rattle.task_values.specs.Outcomes.{IsMeaning};
 ghost use Rattle.issue_list.specs.declared.choice.Choice.TheVariants.{First};
 ghost use Rattle.variant_report.specs.SummaryTexts.{summary_text};
-ghost use Rattle.command_words.specs.Words.{AreSelfWords, AreSizes, AsksSelfRun, IsInRange, workers_of};
+ghost use Rattle.command_words.specs.Words.{AreSelfWords, AreSizes, AsksSelfRun};
+ghost use Rattle.command_words.specs.Words.{IsInRange, workers_of};
+ghost use Rattle.dispatcher.specs.Plans.{IsPlan};
 ghost use Rattle.flame_top.specs.Answers.{Answers, state_of};
 ghost use Rattle.flame_top.specs.Due.{DueCommand};
+ghost use Rattle.flame_top.specs.Going.{Goes};
 ghost use Rattle.flame_top.specs.Meaning.{DueMeaning, DueResult};
 ghost use Rattle.flame_top.specs.SelfRun.{DueSelfRun, DueSummary, self_text};
 ghost use Rattle.flame_top.specs.Steps.{steps_by};
 
-use crate::answering::{answer_alone, answer_many_alone};
+use crate::answering::answer_alone;
 use crate::make::modulus_of;
 use crate::meaning::bad_pivot_output;
 use crate::output::Output;
 use crate::steps::{Listing, list_steps};
-use crate::workers::{go_alone, go_together};
+use crate::workers::{finish, go_alone, go_together};
 use command_words::Command;
 use dispatcher::{Finished, Plan};
 use equation::{Job, Place};
@@ -83,71 +86,39 @@ fn finished_output(
     }
 }
 
-/// Lists the steps of a job by first variants and has one worker do them, or refuses the job.
-fn job_output(alloc: Global, job: &Job, words: SelfWords) -> Result<Output, AllocError>
-    requires job { IsJob job.now }
-    requires size { 1 ≤ words.block }
-    ensures { IfOk result (λ output. DueSummary words job.now output.status output.text.items) }
-{
-    match list_steps(alloc, job, words.block, &Choice::First)? {
-        Listing::Steps(steps) => {
-            let Finished { outcome, .. } = go_alone(alloc, job, words.block, &steps)?;
-            Ok(finished_output(alloc, job, words, &steps, outcome)?)
-        }
-        Listing::Refused(output) => Ok(output),
-    }
-}
-
-/// Lists the steps of a job by first variants and has several workers do them, or refuses the job.
-fn job_many_output<R: Threads + Wait + Sync, G: Gate>(
-    rt: &R,
+/// Lists the steps of a job by first variants and has them done, or refuses the job.
+fn job_output<F: FnOnce(&Plan<'_>) -> Result<Finished, AllocError>>(
     alloc: Global,
     job: &Job,
     words: SelfWords,
-    gate: &G,
+    go: F,
 ) -> Result<Output, AllocError>
     requires job { IsJob job.now }
     requires sizes { AreSizes words.block words.workers }
-    requires many { 2 ≤ words.workers }
+    requires goes { Goes F.FnOnce go words.workers }
     ensures { IfOk result (λ output. DueSummary words job.now output.status output.text.items) }
 {
     match list_steps(alloc, job, words.block, &Choice::First)? {
         Listing::Steps(steps) => {
-            let plan = Plan {
-                job,
-                b: words.block,
-                steps: &steps,
-                workers: words.workers,
-            };
-            let Finished { outcome, .. } = go_together(rt, alloc, &plan, gate)?;
+            let Finished { outcome, .. } = finish(job, words.block, &steps, words.workers, go)?;
             Ok(finished_output(alloc, job, words, &steps, outcome)?)
         }
         Listing::Refused(output) => Ok(output),
     }
 }
 
-/// A run of the generated job by one worker.
-pub fn selfrun_output(alloc: Global, words: SelfWords) -> Result<Output, AllocError>
-    requires range { AreSelfWords words }
-    ensures { IfOk result (λ output. DueSelfRun words output.status output.text.items) }
-{
-    let job = generate(alloc, words.n, modulus_of(words.m), words.seed)?;
-    Ok(job_output(alloc, &job, words)?)
-}
-
-/// A run of the generated job by several workers.
-pub fn selfrun_many_output<R: Threads + Wait + Sync, G: Gate>(
-    rt: &R,
+/// A run of the generated job.
+pub fn selfrun_output<F: FnOnce(&Plan<'_>) -> Result<Finished, AllocError>>(
     alloc: Global,
     words: SelfWords,
-    gate: &G,
+    go: F,
 ) -> Result<Output, AllocError>
     requires range { AreSelfWords words }
-    requires many { 2 ≤ words.workers }
+    requires goes { Goes F.FnOnce go words.workers }
     ensures { IfOk result (λ output. DueSelfRun words output.status output.text.items) }
 {
     let job = generate(alloc, words.n, modulus_of(words.m), words.seed)?;
-    Ok(job_many_output(rt, alloc, &job, words, gate)?)
+    Ok(job_output(alloc, &job, words, go)?)
 }
 
 /// Runs the generated job that the command asks for with one worker, each statement by the first variant of its operation, and
@@ -174,7 +145,7 @@ pub fn selfrun_one_cmd<S: Source, K: Sink>(
     ensures unread { (source.new ≡ source.old) × (result ≢ 1) }
     ensures untouched { result ≡ 5 → sink.new ≡ sink.old }
 {
-    answer_alone(alloc, command, source, sink)
+    answer_alone(alloc, command, source, sink, |plan| go_alone(alloc, plan))
 }
 
 /// Runs the generated job with two to sixteen workers on threads, and writes the summary that one worker gets but for
@@ -196,5 +167,14 @@ pub fn selfrun_many_cmd<R: Threads + Wait + Sync, S: Source, K: Sink, G: Gate>(
     ensures unread { (source.new ≡ source.old) × (result ≢ 1) }
     ensures untouched { result ≡ 5 → sink.new ≡ sink.old }
 {
-    answer_many_alone(rt, alloc, command, source, sink, gate)
+    answer_alone(
+        alloc,
+        command,
+        source,
+        sink,
+        |plan|
+            requires plan { IsPlan plan.now }
+            requires many { 2 ≤ plan.now.workers }
+        { go_together(rt, alloc, plan, gate) },
+    )
 }

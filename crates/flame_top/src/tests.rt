@@ -81,13 +81,17 @@ const AFTER: &str = "do mul W A B\nafter W 1 1\n0\nend\n";
 const TRACED: &str =
     "matrix A 4 4\n1 0 0 0\n0 1 0 0\n0 0 1 0\n0 0 0 1\nend\ntrace\ntasks 5\n1 1 solve(0,0)\n2 1 solve(0,1)\n3 1 solve(1,0)\n4 1 left(1,1,0)\n5 1 solve(1,1)\nedges 5\n1 2 flow\n1 3 flow\n2 4 flow\n3 4 flow\n4 5 output\nschedule 10\nstart 1\nfinish 1\nstart 2\nfinish 2\nstart 3\nfinish 3\nstart 4\nfinish 4\nstart 5\nfinish 5\nend\n";
 
+/// The partitioned matrix expression of `lu` along its dimension.
+const EXPRESSION: &str =
+    "pme lu split n\nX[0,0] = lu(W[0,0])\nX[0,1] = inv(X.l[0,0])*(W[0,1])\nX[1,0] = (W[1,0])*inv(X.u[0,0])\nX[1,1] = lu(W[1,1] - X.l[1,0]*X.u[0,1])\ntasks 5\n1 solve(0,0)\n2 solve(0,1) needs 1\n3 solve(1,0) needs 1\n4 left(1,1,0) needs 2 3\n5 solve(1,1) needs 4\nend\n";
+
 /// The summary of a small generated job.
 const SUMMARY: &str = "selfrun 2 101 1 block 1 workers 1\ntasks 23\nsum S 88\nsum B 21\n";
 
 #[test]
 fn commands_are_answered(rt: HostRuntime) -> Result<(), Fail> {
     let alloc = rt.alloc();
-    let cases: [(&[&str], &[&str], u8, &str); 6] = [
+    let cases: [(&[&str], &[&str], u8, &str); 9] = [
         (&["derive"], &[HEAD], 0, ""),
         (RUN, &[HEAD, MUL, SMALL, TAIL], 0, "matrix W 1 1\n0\nend\n"),
         (TRACE, &[HEAD, LU, IDENTITY], 0, TRACED),
@@ -96,6 +100,19 @@ fn commands_are_answered(rt: HostRuntime) -> Result<(), Fail> {
             &[HEAD, LU, IDENTITY],
             3,
             "refused NoVariant statement 1\n",
+        ),
+        (&["pme", "lu", "n"], &[HEAD, MUL, LU], 0, EXPRESSION),
+        (
+            &["pme", "lu", "m"],
+            &[HEAD, MUL, LU],
+            3,
+            "refused NoSplit\n",
+        ),
+        (
+            &["pme", "qr", "n"],
+            &[HEAD, MUL, LU],
+            3,
+            "refused NoOperation\n",
         ),
         (&["verify"], &[HEAD, MUL, SMALL, AFTER], 0, "verified 1\n"),
         (SELFRUN, &[], 0, SUMMARY),

@@ -1,6 +1,7 @@
 //! `verify`: whether the matrices behind a job are the statements' work matrices after them.
 
-ghost use Rattle.std.specs.Prelude.{◌≡◌, ◌≢◌, ◌⊎◌, ◌+◌, ◌<◌, ◌≤◌, ◌++◌, ℕ, List, Ok, length, slice_set, codes, decimal, IfOk, MatchOption, OnOk};
+ghost use Rattle.std.specs.Prelude.{◌≡◌, ◌≢◌, ◌⊎◌, ◌+◌, ◌<◌, ◌≤◌, ◌++◌, ℕ, List, Ok, length};
+ghost use Rattle.std.specs.Prelude.{slice_set, codes, decimal, IfOk, MatchOption, OnOk};
 ghost use Rattle.std.specs.Io.KnownBytes.{IsAtEnd};
 ghost use Rattle.text_scan.specs.declared.token.Token.{Token};
 ghost use Rattle.text_scan.specs.Tokens.{tokens_of};
@@ -13,6 +14,7 @@ ghost use Rattle.command_words.specs.Words.{AsksVerify};
 
 use crate::answering::answer_command;
 use crate::output::{Output, fault_output};
+use crate::workers::go_alone;
 use byte_texts::put_decimal;
 use command_words::Command;
 use equation::{Job, Place, residual};
@@ -59,8 +61,10 @@ fn first_difference(
 ) -> Result<Option<Difference>, AllocError>
     requires job { IsJob job.now }
     requires after { AreAfter job.now job.now.statements after.now }
-    ensures { IfOk result (λ first. MatchOption first ((k : ℕ) → k < length job.now.statements → Verifies job.now after.now k)
-        (λ d. (at : ℕ) × (d.number ≡ at + 1) × Differs job.now after.now at d.place × ((k : ℕ) → k < at → Verifies job.now after.now k))) }
+    ensures { IfOk result (λ first. MatchOption first
+        ((k : ℕ) → k < length job.now.statements → Verifies job.now after.now k)
+        (λ d. (at : ℕ) × (d.number ≡ at + 1) × Differs job.now after.now at d.place
+        × ((k : ℕ) → k < at → Verifies job.now after.now k))) }
 {
     let mut matrices = copies(alloc, job.matrices.as_slice())?;
     for (at, s) in job.statements.as_slice().iter().enumerate() {
@@ -76,7 +80,8 @@ fn first_difference(
 }
 
 fn put_verified(count: usize, out: &mut Vec<u8>) -> Result<(), AllocError>
-    ensures { OnOk result (out.new.items ≡ out.old.items ++ codes "verified " ++ decimal count ++ codes "\n") }
+    ensures { OnOk result (out.new.items ≡
+        out.old.items ++ codes "verified " ++ decimal count ++ codes "\n") }
 {
     out.extend_from_slice(b"verified ")?;
     put_decimal(count as u64, out)?;
@@ -85,8 +90,10 @@ fn put_verified(count: usize, out: &mut Vec<u8>) -> Result<(), AllocError>
 }
 
 fn put_difference(d: Difference, out: &mut Vec<u8>) -> Result<(), AllocError>
-    ensures { OnOk result (out.new.items ≡ out.old.items ++ codes "differs statement " ++ decimal d.number
-        ++ codes " row " ++ decimal d.place.row ++ codes " column " ++ decimal d.place.col ++ codes "\n") }
+    ensures { OnOk result (out.new.items ≡
+        out.old.items ++ codes "differs statement " ++ decimal d.number
+        ++ codes " row " ++ decimal d.place.row
+        ++ codes " column " ++ decimal d.place.col ++ codes "\n") }
 {
     out.extend_from_slice(b"differs statement ")?;
     put_decimal(u64::from(d.number), out)?;
@@ -123,7 +130,8 @@ fn behind_output(alloc: Global, bytes: &[u8], rest: Rest, job: &Job) -> Result<O
     requires place { IsPlace bytes.now rest }
     requires scanned { (tokens : List Token) × (tokens_of 1 bytes.now ≡ Ok tokens) }
     requires job { IsJob job.now }
-    ensures { IfOk result (λ output. DueBehind bytes.now rest job.now output.status output.text.items) }
+    ensures { IfOk result (λ output.
+        DueBehind bytes.now rest job.now output.status output.text.items) }
 {
     match read_after(alloc, bytes, rest, job) {
         Ok(after) => Ok(answer_output(alloc, job, after.as_slice())?),
@@ -167,5 +175,5 @@ pub fn verify_cmd<S: Source, K: Sink>(
     ensures ended { IsDueStatus result → result ≢ 3 → IsAtEnd (S.left source.new) }
     ensures untouched { (result ≡ 1) ⊎ (result ≡ 5) → sink.new ≡ sink.old }
 {
-    answer_command(alloc, command, source, sink)
+    answer_command(alloc, command, source, sink, |plan| go_alone(alloc, plan))
 }

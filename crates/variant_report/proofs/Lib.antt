@@ -1,3 +1,5 @@
+mod BlockLines
 mod PlacedTexts
 mod SmallJobs
+mod WorkedPmes
 mod WorkedTexts

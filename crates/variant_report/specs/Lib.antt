@@ -1,5 +1,6 @@
 pub mod FamilyTexts
 pub mod NumberLines
+pub mod PmeTexts
 pub mod ResultTexts
 pub mod SummaryTexts
 pub mod TaskTexts

@@ -17,7 +17,7 @@ fn put_dir(dir: Dir, out: &mut Vec<u8>) -> Result<(), AllocError>
 }
 
 /// The name of a dimension.
-fn name_of(op: &Operation, d: u32) -> &[u8]
+pub(crate) fn name_of(op: &Operation, d: u32) -> &[u8]
     ensures { result.now ≡ dim_name op.now d }
 {
     match op.dims.get(d as usize) {

@@ -6,6 +6,7 @@
 mod families;
 mod number_lines;
 mod orders;
+mod pmes;
 mod results;
 mod self_words;
 mod summaries;
@@ -14,6 +15,7 @@ mod traces;
 
 pub use families::write_family;
 pub use orders::ordered_events;
+pub use pmes::write_pme;
 pub use results::write_result;
 pub use self_words::SelfWords;
 pub use summaries::write_summary;

@@ -11,7 +11,7 @@ returns-in-Done c =
     let output = c.in_ok-result_output-in-Done in
     let schedule = c.args.finished.schedule in (
       schedule,
-      subst (λ (steps : List Step). AreEventsOf c.args.words.now.workers steps schedule) c.requires.steps c.requires.events,
+      subst (λ (steps : List Step). AreEventsOf c.args.words.now.workers steps schedule) c.requires.steps c.requires.finished.events,
       inl (subst
           (λ (steps : List Step). DueResult c.args.job.now (λ after. result_text c.args.job.now after ++ trace_part c.args.words.now.trace steps schedule) output.field-0.status output.field-0.text.items)
           c.requires.steps output.ensures),
