@@ -126,13 +126,24 @@ def print_job(found, name, job, matrices, n, steps):
           f"{found[name, 16][2] / 1e6:.0f} MB, one {found[name, 1][2] / 1e6:.0f} MB)")
 
 
-def main():
-    flame, data = sys.argv[1], Path(sys.argv[2])
-    rounds, n = [int(given) for given in sys.argv[3:]] + [5, 1024][len(sys.argv[3:]):]
+def write_jobs(data, n):
+    """Writes the texts of the jobs, in a process of its own: what a run has at most counts what the process that starts it has."""
+    child = os.fork()
+    if child:
+        if os.waitpid(child, 0)[1]:
+            sys.exit(f"the jobs can't be written to {data}")
+        return
     for name, operation, names, side, do in (("mul", MUL, "WAB", n, "do mul W A B\n"), ("lu", LU, "A", n, "do lu A\n"),
                                              ("steps", MUL, "WAB", SIDE, "do mul W A B\n" * TIMES)):
         (data / f"threads-{name}.flame").write_text(job_text(operation, names, side, do))
         (data / f"threads-{name}-idle.flame").write_text(job_text(operation, names, side, ""))
+    os._exit(0)
+
+
+def main():
+    flame, data = sys.argv[1], Path(sys.argv[2])
+    rounds, n = [int(given) for given in sys.argv[3:]] + [5, 1024][len(sys.argv[3:]):]
+    write_jobs(data, n)
     print(f"{os.cpu_count()} processors, load {os.getloadavg()[0]:.1f}, best of {rounds} rounds")
     found = best_of(rounds, runs_of(flame, data, n))
     print(f"{'beyond reading the job':24}" + "".join(f"{workers:>9} w" for workers in WORKERS) + "   whole, 4   limit")

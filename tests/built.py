@@ -20,6 +20,9 @@ class Built:
         that have them are bad.
     generator: the commands `make` and `selfrun`; else their words are bad.
     threads: runs by 2 to 16 workers; else their words are bad.
+    pme: the command `pme`; else its words are bad.
+    worksheet: the command `worksheet`; else its words are bad.
+    check: the command `check`; else its words are bad.
     """
 
     derive_every_form: bool = False
@@ -29,6 +32,9 @@ class Built:
     variants: bool = False
     generator: bool = False
     threads: bool = False
+    pme: bool = False
+    worksheet: bool = False
+    check: bool = False
 
     def has(self, command):
         """Whether the program has the command that these words spell; else the words are bad."""
@@ -36,7 +42,8 @@ class Built:
             return False
         if command.name == "run":
             return self.variants or not {"variants", "--trace"} & set(command.parts)
-        commands = {"derive": True, "verify": self.verify, "make": self.generator, "selfrun": self.generator}
+        commands = {"derive": True, "verify": self.verify, "make": self.generator, "selfrun": self.generator,
+                    "pme": self.pme, "worksheet": self.worksheet, "check": self.check}
         return commands.get(command.name, False)
 
     def meets(self, needs):
@@ -47,9 +54,9 @@ class Built:
 
 FLAGS = tuple(field.name for field in fields(Built))
 
-# What the built program has today.
+# What the built program has today. A command that it doesn't have yet is switched on here when it lands: worksheet, check.
 BUILT = Built(derive_every_form=True, run_every_form=True, verify=True, block_sizes=True, variants=True, generator=True,
-              threads=True)
+              threads=True, pme=True)
 
 # Everything that the reference can answer, whether the program has it or not.
 WHOLE = Built(**{flag: True for flag in FLAGS})

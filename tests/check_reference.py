@@ -149,7 +149,7 @@ STEPS = {
 }
 
 
-# Worked rows of the numbers above, for square matrices in so many parts.
+# Known values of the numbers above, for square matrices in so many parts.
 STEP_ROWS = ((2, (5, 5, 6, 7)), (8, (204, 204, 288, 289)))
 
 
@@ -298,7 +298,7 @@ def check_kept():
 
 
 if __name__ == "__main__":
-    for check in (check_families, check_searches, check_rules, check_steps, check_no_empty_family, check_issue, check_replay,
-                  check_edges, check_traces, check_sums, check_operations, check_kept):
+    for check in (check_kept, check_families, check_searches, check_rules, check_steps, check_no_empty_family, check_issue,
+                  check_replay, check_edges, check_traces, check_sums, check_operations):
         check()
     print("the reference agrees with what is known beforehand")

@@ -2,8 +2,9 @@
 
 A program may always answer that memory ran out, so a body that gives up on some inputs breaks no contract. Each entry
 of BODIES says on which inputs such a body gives up (or errs otherwise); this script counts the generated cases of
-`tests/run.sh` among them, and of the fixed ones those of families, sizes, blocks, chains, pivots, variants, words and the
-generator, names the first ones, and ends with 1 where a body has none. `planted_steps.py` has those that err in steps.
+`tests/run.sh` among them, and of the fixed ones those of families, sizes, blocks, chains, pivots, variants, words, the
+generator, expressions and worksheets, names the first ones, and ends with 1 where a body has none. `planted_steps.py` has those
+that err in steps, `planted_sheets.py` those that err in expressions, worksheets and checks.
 
     python3 tests/planted.py [--count N] [--whole]
 """
@@ -24,6 +25,7 @@ from case import made_case  # noqa: E402
 from generate import generated_case  # noqa: E402
 from generators.blocks import block_cases  # noqa: E402
 from generators.chains import chain_cases  # noqa: E402
+from generators.expressions import pme_cases  # noqa: E402
 from generators.families import family_cases  # noqa: E402
 from generators.generated import generated_cases  # noqa: E402
 from generators.operations import FORMS  # noqa: E402
@@ -31,6 +33,8 @@ from generators.pivots import pivot_cases  # noqa: E402
 from generators.sizes import size_cases  # noqa: E402
 from generators.spellings import spelling_cases  # noqa: E402
 from generators.variants import variant_cases  # noqa: E402
+from generators.worksheets import check_cases, worksheet_cases  # noqa: E402
+from planted_sheets import sheet_bodies  # noqa: E402
 from planted_steps import STEP_BODIES  # noqa: E402
 from reference.due import due  # noqa: E402
 from reference.faults import Fault  # noqa: E402
@@ -276,9 +280,10 @@ BLOCK_BODIES |= {f"a bad pivot of the form {form} behind the first block": mispl
 
 def chosen_cases(built, count):
     """The generated cases by their numbers, and the fixed ones of families, sizes, blocks, chains and pivots, and by what is
-    built of variants, words and the generator, each with what is due if it is known."""
+    built of variants, words, the generator, expressions and worksheets, each with what is due if it is known."""
     drawn = [(partial(generated_case, "1", index, built), None) for index in range(count)]
-    fixed = [*family_cases(), *block_cases(), *chain_cases(), *pivot_cases(), *spelling_cases()]
+    fixed = [*family_cases(), *block_cases(), *chain_cases(), *pivot_cases(), *spelling_cases(built),
+             *pme_cases(built), *worksheet_cases(built), *check_cases(built)]
     known = [*size_cases(), *(variant_cases(built) if built.variants else ()),
              *(generated_cases(built) if built.generator else ())]
     return drawn + [(partial(made_case, case), None) for case in fixed] + [
@@ -294,18 +299,20 @@ def seen(built, chosen):
     job = None
     try:
         text = scan(case.data)
-        job = read_job(before(text, "after")[0] if case.words == ["verify"] else text)
+        behind = {"verify": "after", "check": "worksheet"}.get("".join(map(str, case.words)))
+        job = read_job(before(text, behind)[0] if behind else text)
     except Fault:
         pass
     one = Seen(case.words, case.data, status, output, job)
-    bodies = {**BODIES, **FORM_BODIES, **BLOCK_BODIES, **(STEP_BODIES if built.variants and built.generator else {})}
+    bodies = {**BODIES, **FORM_BODIES, **BLOCK_BODIES, **(STEP_BODIES if built.variants and built.generator else {}),
+              **sheet_bodies(built)}
     return case.name, [name for name, gives_up in bodies.items() if gives_up(one)]
 
 
 def main():
     """Prints a line for each body: how many cases refuse it, and the first of them."""
     parser = argparse.ArgumentParser()
-    parser.add_argument("--count", type=int, default=700)
+    parser.add_argument("--count", type=int, default=900)
     parser.add_argument("--whole", action="store_true")
     arguments = parser.parse_args()
     built = WHOLE if arguments.whole else BUILT
@@ -315,7 +322,8 @@ def main():
     missed = 0
     bodies = list(BODIES) + (list(FORM_BODIES) if built.run_every_form and built.verify else [])
     bodies += list(BLOCK_BODIES) if built.block_sizes else []
-    for body in bodies + (list(STEP_BODIES) if built.variants and built.generator else []):
+    bodies += list(STEP_BODIES) if built.variants and built.generator else []
+    for body in bodies + list(sheet_bodies(built)):
         cases = [name for name, refused in found if body in refused]
         missed += not cases
         print(f"{body}: {len(cases)} cases, {', '.join(cases[:3])}")

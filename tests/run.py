@@ -23,6 +23,7 @@ from generators.blocks import block_cases  # noqa: E402
 from generators.chains import chain_cases  # noqa: E402
 from generators.cuts import cut_cases  # noqa: E402
 from generators.documents import document_cases  # noqa: E402
+from generators.expressions import pme_cases  # noqa: E402
 from generators.families import family_cases  # noqa: E402
 from generators.generated import generated_cases  # noqa: E402
 from generators.grids import grid_cases  # noqa: E402
@@ -33,6 +34,7 @@ from generators.spellings import spelling_cases  # noqa: E402
 from generators.streams import stream_cases  # noqa: E402
 from generators.variants import turned, variant_cases  # noqa: E402
 from generators.words import words_under  # noqa: E402
+from generators.worksheets import check_cases, worksheet_cases  # noqa: E402
 from reference.due import due  # noqa: E402
 from schedules import agrees, by_workers  # noqa: E402
 
@@ -189,7 +191,7 @@ def fixed_cases(built):
     function that makes it, or None where the reference says it; made once, before the processes of the pool begin. Great
     ones come first."""
     cases = [*limit_cases(), *block_cases(), *family_cases(), *grid_cases(built), *pivot_cases(), *chain_cases(),
-             *cut_cases(built), *spelling_cases()]
+             *cut_cases(built), *spelling_cases(built), *pme_cases(built), *worksheet_cases(built), *check_cases(built)]
     by_variants = list(variant_cases(built)) if built.variants else []
     made = list(generated_cases(built)) if built.generator else []
     return list(size_cases()) + by_variants + made + [(case, None) for case in cases] + list(stream_cases(built)) + list(
@@ -242,7 +244,7 @@ def main():
     """Runs all cases; the exit status is 0 where none failed and at least 500 ran."""
     parser = argparse.ArgumentParser(description="Runs the built program on kept and generated cases.")
     parser.add_argument("--seed", default="1")
-    parser.add_argument("--count", type=int, default=700)
+    parser.add_argument("--count", type=int, default=900)
     parser.add_argument("--only", type=int, help="runs the generated case of this number alone")
     parser.add_argument("--case", nargs="+", help="runs the kept or failed cases of these folders alone")
     parser.add_argument("--whole", action="store_true", help="takes everything as built")

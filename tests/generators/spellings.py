@@ -1,5 +1,5 @@
-"""Words of a run by variants, of `make` and of `selfrun`: good ones, and each good list with a word changed, left out, twice
-or in another place, and with numbers on each side of their limits."""
+"""Words of a run by variants, of `make`, of `selfrun`, and of the commands that name an operation: good ones, and each good
+list with a word changed, left out, twice or in another place, and with numbers on each side of their limits."""
 
 from case import Case
 
@@ -9,6 +9,8 @@ JOB = text(LU, identity("A", 3), identity("B", 2), "do lu A\ndo lu B\nprint A\np
 RUN = ["run", "--block", "2", "--workers", "1"]
 RUNS = (RUN, [*RUN, "--trace"], [*RUN, "--variants", "5,4"], [*RUN, "--variants", "5,4", "--trace"])
 MAKE = ["make", "2", "101", "1"]
+PME, PAIR = ["pme", "lu", "n"], ["pme", "lu", "n", "n"]
+SHEET = ["worksheet", "lu", "5"]
 SELFRUN = ["selfrun", "2", "101", "1", "--block", "1", "--workers", "1"]
 # Spellings of a number of which none is good.
 MISSPELLED = ("", " ", "x", "01", "00", "+1", "-1", " 1", "1 ", "1.0", "1e0", "0x1", "1_0", "1\t", "1\n", "\u0661", "\uff11",
@@ -26,7 +28,12 @@ LIMITS = {
     ("selfrun", 3): (0, 4294967295, 4294967296), ("selfrun", 5): (0, 1, 1024, 1025, 4294967297),
     ("selfrun", 7): (0, 1, 2, 8, 16, 17, 4294967297),
     ("run", 2): (0, 1, 1024, 1025, 4294967297), ("run", 4): (0, 1, 2, 8, 16, 17, 4294967297),
+    ("worksheet", 2): (0, 1, 2, 5, 6, 4294967295, 4294967296, 4294967301),
 }
+# Spellings of a name; the first two are good.
+NAMES = ("q" * 32, "l_u", "q" * 33, "", " ", "lu ", " lu", "1u", "_lu", "l-u", "lu,", "lu'", "l u", "l\tu", "lu\n", "\u00e9",
+         "l\u00fc", "q" * 5000, b"lu\xff")
+
 
 
 def is_number(word):
@@ -77,9 +84,20 @@ def moved(words):
         yield head + [word for part in pieces + [piece] for word in part]
 
 
-def word_lists():
+def named_lists(built):
+    """Words of the commands that name operations, and of `check`, changed in the same ways; each name misspelled."""
+    good = [PME, PAIR] * built.pme + [SHEET] * built.worksheet + [["check"]] * built.check
+    for words in good:
+        yield from ([list(words)], changed(words), numbers(words))
+        for at, word in enumerate(words):
+            if at and not is_number(word):
+                yield [words[:at] + [name] + words[at + 1:] for name in NAMES]
+
+
+def word_lists(built):
     """All lists of words, each once."""
     lists = [list(words) for words in (*RUNS, MAKE, SELFRUN)]
+    lists += [words for found in named_lists(built) for words in found]
     for words in (RUNS[3], MAKE, SELFRUN):
         lists += [*changed(words), *numbers(words)]
     lists += [words for run in RUNS for words in moved(run)]
@@ -92,7 +110,7 @@ def word_lists():
     return {tuple(words): words for words in lists if "\0" not in "".join(map(str, words))}.values()
 
 
-def spelling_cases():
+def spelling_cases(built):
     """Each list of words, with an input that a run with good words does."""
-    for number, words in enumerate(word_lists()):
+    for number, words in enumerate(word_lists(built)):
         yield Case(f"words: {number}, {' '.join(map(str, words))[:60]}", list(words), JOB)

@@ -3,15 +3,19 @@
 from .families import family_text
 from .faults import Fault, Refusal
 from .generated_job import generated_text, summary_text
-from .issue import chosen_variants
+from .issue import chosen_variants, family_of
 from .job_text import read_after, read_job
 from .matrix_text import matrix_text
 from .meaning import first_difference, meaning
 from .model import BadPivot
+from .partitioned import pme_text, split_of
 from .scanner import before, scan
 from .steps import refuse_too_many
 from .trace_text import trace_text
+from .verdicts import first_wrong
 from .words import read_words
+from .worksheet_text import read_worksheet, worksheet_text
+from .worksheets import made
 
 INPUT_LIMIT = 67_108_864
 
@@ -47,6 +51,39 @@ def refuse_other_families(operation):
     plain = all(operand.structure == "general" for operand in operation.operands())
     if operation.form != "assign" or not plain:
         raise Refusal(f"NotBuilt operation {operation.name}")
+
+
+def operation_named(job, name):
+    """The operation of this name; NoOperation where there is none."""
+    for operation in job.operations:
+        if operation.name == name:
+            return operation
+    raise Refusal("NoOperation")
+
+
+def pme(command, text, _built):
+    """The partitioned matrix expression of an operation along a split."""
+    operation = operation_named(read_job(text), command.parts["op"])
+    names = [command.parts[part] for part in ("first", "second") if part in command.parts]
+    return 0, pme_text(operation, split_of(operation, names))
+
+
+def worksheet(command, text, _built):
+    """The worksheet of an operation's variant."""
+    operation = operation_named(read_job(text), command.parts["op"])
+    variant = family_of(operation).at(command.parts["number"])
+    if variant is None:
+        raise Refusal("NoVariant")
+    return 0, worksheet_text(operation, made(operation, variant))
+
+
+def check(_command, text, _built):
+    """Whether the worksheet behind a job is right, or its first wrong place."""
+    of_job, rest = before(text, "worksheet")
+    job = read_job(of_job)
+    sheet = read_worksheet(rest, text.end, job)
+    wrong = first_wrong(operation_named(job, sheet.operation), sheet)
+    return (7, "wrong {} found {} due {}\n".format(*wrong)) if wrong else (0, "right\n")
 
 
 def run(command, text, built):
@@ -87,6 +124,6 @@ def selfrun(command):
     return 0, summary_text(*(command.parts[part] for part in ("n", "m", "seed", "block", "workers")))
 
 
-COMMANDS = {"derive": derive, "run": run, "verify": verify}
+COMMANDS = {"derive": derive, "pme": pme, "worksheet": worksheet, "check": check, "run": run, "verify": verify}
 # These read no input.
 WITHOUT_INPUT = {"make": make, "selfrun": selfrun}
