@@ -30,7 +30,7 @@ module _ (key : BoardKey) (slots id : ℕ) (me : Me Grid View) (alive : me.0.wor
     -- a view and an act that keep the rule, where y stands in the word, and are what the exchange tells
     abbrev Goes : ℕ → Type 0
     Goes y = (w : View) × (a : Act Grid) × Valid s.homes me.1 a × IsRuled key (set s.words (turn_word key x) y) (homes_after s.homes me.1 a) (set s.views id w)
-        × HasTaken key t x (get_or s.words (turn_word key x) 0) me (w, carried_after me.1 a)
+        × HasTaken key t x (turn_word key x) (get_or s.words (turn_word key x) 0) me (w, carried_after me.1 a)
 
     comes : get_or s.words (turn_word key x) 0 ≡ 0 → Goes 1
     comes e =
@@ -49,9 +49,9 @@ module _ (key : BoardKey) (slots id : ℕ) (me : Me Grid View) (alive : me.0.wor
           kept = kept-block key s.words s.views ruled.kept id me.0 at alive (Away x) (away-block x);
           held = held-still key s.words s.homes s.views ruled.kept ruled.held id me.0 at s.words (Away x) refl (λ y. refl) (λ y. refl) (λ y. refl) (λ u. refl) (λ u. refl);
         } in
-        (w, keeps, tt, subst (λ ws. IsRuled key ws s.homes (set s.views id w)) (sym (set-get_or s.words (turn_word key x) 0)) after, inr (ne, refl, refl))
+        (w, keeps, tt, subst (λ ws. IsRuled key ws s.homes (set s.views id w)) (sym (set-get_or s.words (turn_word key x) 0)) after, inr (ne, refl, refl, refl))
 
-  pub takes_allowed : uses key t x ≡ true → Allows (λ s. IsRuled key s.words s.homes s.views) slots id me (turn_word key x) (λ n. either (eqb n 0) 1 n) (λ n m. HasTaken key t x n me m)
+  pub takes_allowed : uses key t x ≡ true → Allows (λ s. IsRuled key s.words s.homes s.views) slots id me (turn_word key x) (λ n. either (eqb n 0) 1 n) (λ n m. HasTaken key t x (turn_word key x) n me m)
   takes_allowed touch s ruled len at fits = exchanged (get_or s.words (turn_word key x) 0) 0 1 (Goes touch s ruled at) (λ e. comes touch s ruled at e) (λ ne. stays touch s ruled at ne)
 
   -- ---- the block that was taken last goes home

@@ -26,7 +26,8 @@ use Rattle.dependence_queue.specs.Edges.{count_into, edges_of, edge_number}
 use Rattle.dependence_queue.proofs.ListedEdges.{counted}
 use Rattle.block_store.specs.declared.key.BoardKey.{BoardKey}
 use Rattle.block_store.specs.declared.view.View.{View}
-use Rattle.block_store.specs.Keys.{most_steps, accesses, step_count, edge, preds}
+use Rattle.issue_list.specs.CanonicalSteps.{most_steps}
+use Rattle.block_store.specs.Keys.{accesses, step_count, edge, preds}
 use Rattle.block_store.specs.Opening.{IsOpening}
 use Rattle.block_store.specs.Sums.{below}
 use Rattle.block_store.specs.Tallies.{count_in, begins, ends, notices, marks, puts}

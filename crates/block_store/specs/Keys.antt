@@ -10,10 +10,6 @@ use Rattle.block_store.specs.declared.key.BoardKey.{BoardKey}
 use Rattle.block_store.specs.declared.outcome.StepOutcome.{StepOutcome}
 use Rattle.block_store.specs.declared.outcome.StepOutcome.TheVariants.{Ran, Skipped, Failed}
 
--- how many steps a board has at most
-abbrev pub most_steps : ℕ
-most_steps = 262144
-
 -- ---- steps and edges
 
 abbrev pub step_count : BoardKey → ℕ

@@ -4,7 +4,8 @@ use Rattle.dependence_queue.specs.Edges.{count_into, edges_of}
 use Rattle.block_store.specs.declared.key.BoardKey.{BoardKey}
 use Rattle.block_store.specs.Blocks.{block_count}
 use Rattle.block_store.specs.Holding.{turn_word}
-use Rattle.block_store.specs.Keys.{accesses, most_steps, step_count, IsStep}
+use Rattle.issue_list.specs.CanonicalSteps.{most_steps}
+use Rattle.block_store.specs.Keys.{accesses, step_count, IsStep}
 
 -- the clock is 0, the word of each step the number of edges into it, and that of a block's turn 0
 pub record IsOpening (key : BoardKey) (words : List ℕ) : Type 0 where

@@ -7,6 +7,7 @@ use Rattle.block_store.specs.declared.key.BoardKey.{BoardKey}
 use Rattle.block_store.specs.declared.view.Fact.TheVariants.{Claimed, Refused, Took, Away}
 use Rattle.block_store.specs.declared.view.View.{View}
 use Rattle.block_store.specs.Blocks.{IsFound}
+use Rattle.block_store.specs.Holding.{turn_word}
 use Rattle.block_store.specs.Keys.{step_count, IsReplayOf, outcome_at, skip_of}
 use Rattle.block_store.specs.Rule.{AreClaims, AreStamps, IsView}
 use Rattle.block_store.specs.Sums.{below}
@@ -126,8 +127,8 @@ pub record HasLooked (t n : ℕ) (before after : View) : Type 0 where
 
 -- ---- blocks
 
--- the turn word of block x was exchanged for step t, and was n: the block comes as t finds it, or it is away
-abbrev pub HasTaken : BoardKey → ℕ → ℕ → ℕ → Me Grid View → Me Grid View → Type 0
-HasTaken key t x n me next =
+-- a word was exchanged for step t, and was n: block x comes as t finds it, or it is away, and then the word is that of its turn
+abbrev pub HasTaken : BoardKey → ℕ → ℕ → ℕ → ℕ → Me Grid View → Me Grid View → Type 0
+HasTaken key t x word n me next =
     ((n ≡ 0) × (next.0 ≡ learned (Took x) me.0) × ((g : Grid) × (next.1 ≡ (x, g) ∷ me.1) × IsFound key t x g))
-    ⊎ ((n ≢ 0) × (next.0 ≡ learned (Away x) me.0) × (next.1 ≡ me.1))
+    ⊎ ((n ≢ 0) × (next.0 ≡ learned (Away x) me.0) × (next.1 ≡ me.1) × (word ≡ turn_word key x))

@@ -6,7 +6,8 @@ use Rattle.block_store.specs.declared.key.BoardKey.{BoardKey}
 use Rattle.block_store.specs.declared.outcome.StepOutcome.{StepOutcome}
 use Rattle.block_store.specs.declared.view.Fact.TheVariants.{Ended}
 use Rattle.block_store.specs.declared.view.View.{View}
-use Rattle.block_store.specs.Keys.{step_count, most_steps, IsStep, IsOutcome, edge, preds}
+use Rattle.issue_list.specs.CanonicalSteps.{most_steps}
+use Rattle.block_store.specs.Keys.{step_count, IsStep, IsOutcome, edge, preds}
 use Rattle.block_store.specs.Sums.{below}
 use Rattle.block_store.specs.Tallies.{weigh, stand_for, In, claim_of, begin_of, end_of, good_of, bad_of, mark_of, notice_of, claims, begins, ends, marks, notices, lasts, stamps, start, finish, noticed_into, marked_into, mark, drawn}
 

@@ -6,7 +6,7 @@ ghost use Rattle.dependence_queue.specs.Edges.{count_into, edges_of};
 ghost use Rattle.equation.specs.Jobs.{IsJob};
 ghost use Rattle.job_blocks.specs.BlockedJobs.{AreFirstBlocks};
 ghost use Rattle.schedule_core.specs.StepAccesses.{accesses_of};
-ghost use Rattle.block_store.specs.Keys.{most_steps};
+ghost use Rattle.issue_list.specs.CanonicalSteps.{most_steps};
 ghost use Rattle.block_store.specs.Seats.{key_of, view, AreFirstSeats, AreNewSeats, IsKeyOf, IsNewSeat};
 
 use crate::key::BoardKey;

@@ -128,7 +128,8 @@ pub struct Takes<J> {
 impl<J: Subject> Play<Matrix, View> for Takes<J> {
     ghost use Rattle.block_store.specs.Plays.{HasTaken};
 
-    ghost then = { λ st me found next. HasTaken me.0.key J.step J.block found me next };
+    ghost then = { λ st me found next.
+        HasTaken me.0.key J.step J.block st.word found me next };
 }
 
 /// The block that was taken last goes home as it was.

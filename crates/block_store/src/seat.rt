@@ -2,7 +2,8 @@
 
 ghost use Rattle.std.specs.Prelude.{◌≡◌, ◌+◌, ◌<◌, ◌≤◌, None, length};
 ghost use Rattle.block_store.specs.Blocks.{block_count};
-ghost use Rattle.block_store.specs.Keys.{most_steps, step_count};
+ghost use Rattle.issue_list.specs.CanonicalSteps.{most_steps};
+ghost use Rattle.block_store.specs.Keys.{step_count};
 
 use crate::key::BoardKey;
 use crate::view::{BoardRule, View};

@@ -2,7 +2,7 @@
 use Rattle.std.proofs.Common.{◌≡◌, ℕ, suc, ◌-◌, ◌*◌, ◌<◌, Option, Some, None, refl, sym, ap, ◌∙◌, subst, arith}
 use Rattle.std.specs.Prelude.{List}
 use Rattle.equation.specs.declared.job.Place.{Place}
-use Rattle.step_replays.specs.Replays.{StepResult, IsDone, IsFailure, nth_result, nth_step}
+use Rattle.step_replays.specs.Replays.{StepResult, nth_result, nth_step}
 use Rattle.step_replays.specs.Replays as replays
 use Rattle.task_values.specs.declared.outcome.Failure.{Failure}
 use Rattle.block_store.specs.declared.key.BoardKey.{BoardKey}
@@ -15,7 +15,7 @@ use Rattle.block_store.specs.Plays.{IsWhole}
 use Rattle.block_store.specs.Tallies.{In, end_of}
 use Rattle.block_store.proofs.Ending.{all-done, begun-step, ended-begun, has-ended}
 use Rattle.block_store.proofs.Facts.{some_fact, end-is}
-use Rattle.dispatcher.specs.Crews.{IsFailureOf, IsFirstFailure}
+use Rattle.dispatcher.specs.Crews.{IsFailureOf, IsReplayFailure}
 use Rattle.dispatcher.specs.Workers.{HasFailed, IsNoted, statement_at}
 
 -- what an outcome says of a result
@@ -62,5 +62,5 @@ module _ (key : BoardKey) (v : View) (whole : IsWhole key (2 * step_count key) v
             omega (arith, statement, least.least (suc s) other.row other.col (has-failed s other within failed));
       }
 
-pub first-failure : (key : BoardKey) (v : View) → IsWhole key (2 * step_count key) v → (noted : Option Failure) → IsNoted key v.facts noted → IsFirstFailure key noted
+pub first-failure : (key : BoardKey) (v : View) → IsWhole key (2 * step_count key) v → (noted : Option Failure) → IsNoted key v.facts noted → IsReplayFailure key noted
 first-failure key v whole noted is = λ results replay. failure-of key v whole results replay noted is

@@ -13,19 +13,19 @@ use Rattle.block_store.specs.Tallies.{last_of, weigh}
 use Rattle.block_store.proofs.Opening.{counted_preds}
 use Rattle.ready_queue.specs.declared.queue.Pass.{Pass}
 use Rattle.ready_queue.specs.declared.queue.Ready.{Ready}
-use Rattle.ready_queue.specs.Hands.{same, times}
+use Rattle.ready_queue.specs.PassViews.{same, times}
 use Rattle.ready_queue.specs.Queues as queues
 use Rattle.ready_queue.proofs.Numbers.{same-eq, same-ne}
-use Rattle.dispatcher.specs.declared.course.Course.{Course}
+use Rattle.dispatcher.specs.declared.shared_run.SharedRun.{SharedRun}
 use Rattle.dispatcher.specs.declared.worker.Worker.{Worker}
-use Rattle.dispatcher.specs.Courses.{IsCourse}
+use Rattle.dispatcher.specs.SharedRuns.{IsSharedRun}
 use Rattle.dispatcher.specs.Telling.{root}
 use Rattle.dispatcher.specs.Workers.{IsNewWorker, IsWorker}
 
--- what the edges of a course tell of its key
-pub course-preds : (course : Course) → IsCourse course → (t : ℕ) → count_into course.edges.now t ≡ preds (key_of course.board.now) t
-course-preds course is t =
-    ap (λ (edges : List Edge). count_into edges t) (is.edges ∙ ap (λ (steps : List Step). edges_of (accesses_of steps)) (sym is.key.steps_are)) ∙ counted_preds (key_of course.board.now) t
+-- what the edges of a shared run tell of its key
+pub shared-preds : (shared : SharedRun) → IsSharedRun shared → (t : ℕ) → count_into shared.edges.now t ≡ preds (key_of shared.board.now) t
+shared-preds shared is t =
+    ap (λ (edges : List Edge). count_into edges t) (is.edges ∙ ap (λ (steps : List Step). edges_of (accesses_of steps)) (sym is.key.steps_are)) ∙ counted_preds (key_of shared.board.now) t
 
 root-one : (key : BoardKey) (x : ℕ) → preds key x ≡ 0 → root key x ≡ 1
 root-one key x none = rw none refl
@@ -81,7 +81,7 @@ opened board ready old pass new of roots = record {
   free = new.worker.free;
   pass = of;
   tied = record { all = λ x. omega (arith, ap (weigh (last_of x)) new.seat.facts); only = λ x. omega (arith, roots x) };
-  desk = new.worker.desk;
+  buffers = new.worker.buffers;
   long = new.worker.long;
   logged = new.worker.logged;
   noted = new.worker.noted;

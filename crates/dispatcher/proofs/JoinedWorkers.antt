@@ -14,10 +14,10 @@ use Rattle.block_store.proofs.Seating.{count-append, weigh-append}
 use Rattle.ready_queue.specs.declared.queue.Ready.{Ready}
 use Rattle.dispatcher.specs.declared.joining.Joined.{Joined}
 use Rattle.dispatcher.specs.declared.worker.Worker.{Worker}
-use Rattle.dispatcher.specs.Joining.{both_noted, standing, HasEnded, IsJoined, IsPoured}
+use Rattle.dispatcher.specs.Joining.{both_noted, standing, HasEnded, IsJoined, IsJoinedLog}
 use Rattle.dispatcher.specs.Workers.{IsCovered, IsLogged, IsNoted, IsWorker}
 use Rattle.dispatcher.proofs.Noting.{noted-both}
-use Rattle.dispatcher.proofs.Pouring.{covered-both}
+use Rattle.dispatcher.proofs.JoinedLogs.{covered-both}
 
 -- ---- the list
 
@@ -102,16 +102,16 @@ pub record IsBothOf (old : Seat) (other : Seat) (new : Seat) : Type 0 where
   pub both : view new ≡ both_views (view old) (view other)
 
 pub joined-more : (board : Board) (ready : Ready) (old new : Joined) (w : Worker) → IsJoined board old → IsWorker board ready w → IsBothOf old.seat w.seat new.seat
-    → IsPoured old.log.items w.log.items new.log.items → new.failed ≡ both_noted old.failed w.failed → IsJoined board new
-joined-more board ready old new w joined is seat poured noted =
+    → IsJoinedLog old.log.items w.log.items new.log.items → new.failed ≡ both_noted old.failed w.failed → IsJoined board new
+joined-more board ready old new w joined is seat log_is noted =
     let facts : (view new.seat).facts ≡ (view old.seat).facts ++ (view w.seat).facts = ap (λ (x : View). x.facts) seat.both in
     record {
       seat = (seat.table ∙ joined.seat.0, seat.key ∙ joined.seat.1);
       empty = seat.empty ∙ joined.empty;
       free = free-both (view new.seat) (view old.seat) (view w.seat) seat.both joined.free is.free;
-      long = poured.long ∙ joined.long;
+      long = log_is.long ∙ joined.long;
       covered = subst (IsCovered new.log.items) (sym facts)
-          (covered-both old.log.items w.log.items new.log.items (view old.seat).facts (view w.seat).facts (joined.long ∙ sym is.long) poured joined.covered (covered-own w.log.items (view w.seat).facts is.logged));
+          (covered-both old.log.items w.log.items new.log.items (view old.seat).facts (view w.seat).facts (joined.long ∙ sym is.long) log_is joined.covered (covered-own w.log.items (view w.seat).facts is.logged));
       noted = subst (λ (z : List Fact × Option Failure). IsNoted (key_of board) z.0 z.1) (λ i. (sym facts i, sym noted i))
           (noted-both (key_of board) (view old.seat).facts (view w.seat).facts old.failed w.failed joined.noted is.noted);
     }

@@ -1,6 +1,6 @@
-pub mod Buffers
+pub mod KeptBuffers
 pub mod CopiedViews
-pub mod CourseSteps
+pub mod SharedSteps
 pub mod PlanBlocks
 pub mod Readings
 pub mod RoomCuts
@@ -14,10 +14,10 @@ pub mod Successors
 pub mod MovedBlocks
 pub mod WorkerSteps
 pub mod StepViews
-pub mod CourseKeys
+pub mod SharedKeys
 pub mod JoinedFacts
 pub mod Noting
-pub mod Pouring
+pub mod JoinedLogs
 pub mod Failures
 pub mod JoinedWorkers
 pub mod LastBlocks
@@ -26,3 +26,6 @@ pub mod FirstSteps
 pub mod WorkerLists
 pub mod NewWorkers
 pub mod JoinedEvents
+pub mod Rooms
+pub mod Pushes
+pub mod Handling

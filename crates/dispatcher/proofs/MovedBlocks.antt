@@ -6,7 +6,7 @@ use Rattle.block_store.specs.declared.view.Fact.TheVariants.{Claimed, Refused, B
 use Rattle.block_store.specs.declared.view.View.{View}
 use Rattle.block_store.specs.Plays.{HasBegun, NotEnded}
 use Rattle.block_store.specs.Tallies.{begin_of, end_of, last_of, mark_of, notice_of, weigh}
-use Rattle.ready_queue.specs.declared.hand.Hand.{Hand}
+use Rattle.ready_queue.specs.declared.pass_view.PassView.{PassView}
 use Rattle.dispatcher.specs.Doing.{HasMovedBlocks, IsBlockFact}
 use Rattle.dispatcher.specs.Telling.{AreTied, HasToldNone}
 use Rattle.dispatcher.proofs.QuietFacts.{HaveSameEvents, IsNoEvent, more-weigh, quiet-events}
@@ -49,8 +49,8 @@ module _ (t : ℕ) (v w : View) (moved : HasMovedBlocks t v w) where
   moved-last : (x : ℕ) → weigh (last_of x) w.facts ≡ weigh (last_of x) v.facts
   moved-last x = same-weigh (last_of x) (λ y. refl) (λ y. refl) (λ y. refl) (λ s y. refl)
 
-  pub moved-tied : (key : BoardKey) (hand : Hand) → AreTied key hand v → AreTied key hand w
-  moved-tied key hand tied = record {
+  pub moved-tied : (key : BoardKey) (pass : PassView) → AreTied key pass v → AreTied key pass w
+  moved-tied key pass tied = record {
     all = λ x. omega (arith, tied.all x, moved-last x);
     only = λ x. omega (arith, tied.only x, moved-last x);
   }

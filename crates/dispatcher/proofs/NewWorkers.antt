@@ -19,10 +19,10 @@ use Rattle.block_store.proofs.NewSeats.{for-push}
 use Rattle.block_store.proofs.Sums.{below-ge, below-more}
 use Rattle.ready_queue.specs.declared.queue.Pass.{Pass}
 use Rattle.ready_queue.specs.declared.queue.Ready.{Ready}
-use Rattle.ready_queue.specs.Hands.{times}
+use Rattle.ready_queue.specs.PassViews.{times}
 use Rattle.ready_queue.specs.Queues as queues
 use Rattle.dispatcher.specs.declared.worker.Worker.{Worker}
-use Rattle.dispatcher.specs.Courses.{IsDesk}
+use Rattle.dispatcher.specs.SharedRuns.{AreBuffers}
 use Rattle.dispatcher.specs.Joining.{standing}
 use Rattle.dispatcher.proofs.JoinedWorkers.{standing-last}
 use Rattle.dispatcher.specs.Workers.{HasFailed, IsLogged, IsNewWorker, IsNoted}
@@ -50,9 +50,9 @@ empty-log log n facts none new = record {
 }
 
 module _ (board : Board) (ready : Ready) (w : Worker) (n : ℕ) where
-  pub new-worker : IsNewSeat board w.seat → queues.IsFirstPass ready w.pass → IsDesk (key_of board) w.desk → w.log.items ≡ replicate n None
+  pub new-worker : IsNewSeat board w.seat → queues.IsFirstPass ready w.pass → AreBuffers (key_of board) w.buffers → w.log.items ≡ replicate n None
       → n ≡ 2 * step_count (key_of board) → w.failed ≡ None → IsNewWorker board ready w
-  new-worker seat pass desk log many failed = record {
+  new-worker seat pass buffers log many failed = record {
     worker = record {
       seat = seat.of;
       empty = seat.empty;
@@ -62,7 +62,7 @@ module _ (board : Board) (ready : Ready) (w : Worker) (n : ℕ) where
         all = λ x. omega (arith, ap (weigh (last_of x)) seat.facts);
         only = λ x. let none : times x (queues.view w.pass).pushed ≡ 0 = ap (times x) pass.pushed in omega arith;
       };
-      desk = desk;
+      buffers = buffers;
       long = ap length log ∙ length-replicate n None ∙ many;
       logged = empty-log w.log.items n (view w.seat).facts log seat.facts;
       noted = subst (IsNoted (key_of board) (view w.seat).facts) (sym failed) (λ t row col h. (subst (λ fs. HasFailed fs t row col) seat.facts h).1);

@@ -1,4 +1,4 @@
--- Of the steps that failed under the hands of two workers, the one of the least statement. Cited where workers are joined.
+-- Of the steps that failed by two workers, the one of the least statement. Cited where workers are joined.
 use Rattle.std.proofs.Common.{◌≡◌, ℕ, ◌≤◌, inl, inr, List, ◌++◌, Option, Some, None, cond, arith}
 use Rattle.std.specs.Prelude.{nat_lt, Bool, true, false}
 use Rattle.std.proofs.lemmas.Bool.{ltb-true, ltb-false}

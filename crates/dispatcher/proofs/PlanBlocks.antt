@@ -11,7 +11,7 @@ use Rattle.block_store.specs.Blocks.{block_count}
 use Rattle.block_store.specs.Seats.{key_of}
 use Rattle.dispatcher.specs.declared.plan.Plan.{Plan}
 use Rattle.dispatcher.specs.Crews.{IsBoardOf}
-use Rattle.dispatcher.specs.Desks.{NamesBlocks}
+use Rattle.dispatcher.specs.BufferSizes.{NamesBlocks}
 use Rattle.dispatcher.specs.Plans.{IsPlan}
 
 module _ (p : Plan) (board : Board) (is : IsPlan p) (of : IsBoardOf p board) where

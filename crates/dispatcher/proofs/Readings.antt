@@ -8,7 +8,7 @@ use Rattle.block_store.specs.Blocks.{access_of}
 use Rattle.block_store.specs.Plays.{NotHolds}
 use Rattle.block_store.specs.Seats.{view, IsSame}
 use Rattle.dispatcher.specs.Copying.{AreCopied, HasCopied}
-use Rattle.dispatcher.specs.Courses.{entries_of, entry_count}
+use Rattle.dispatcher.specs.SharedRuns.{entries_of, entry_count}
 
 -- the first k reads were copied, and end at a place before which there is room for those that are left
 pub record IsReading (key : BoardKey) (t : ℕ) (old new : Seat) (k place : ℕ) (room : List ℕ) (cuts : List Cut) : Type 0 where

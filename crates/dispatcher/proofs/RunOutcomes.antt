@@ -18,7 +18,7 @@ use Rattle.block_store.specs.declared.key.BoardKey.{BoardKey}
 use Rattle.block_store.specs.Holding.{HaveLast}
 use Rattle.block_store.specs.Keys.{IsReplayOf}
 use Rattle.block_store.specs.Seats.{IsKeyOf}
-use Rattle.dispatcher.specs.Crews.{IsFirstBadPivot, IsFirstFailure}
+use Rattle.dispatcher.specs.Crews.{IsFirstBadPivot, IsReplayFailure}
 use Rattle.dispatcher.proofs.LastBlocks as last
 
 module _ (job : Job) (b : ℕ) (steps : List Step) (workers : ℕ) (key : BoardKey) (is : IsKeyOf job b steps workers key) (valid : IsJob job) (size : 1 ≤ b)
@@ -45,11 +45,11 @@ module _ (job : Job) (b : ℕ) (steps : List Step) (workers : ℕ) (key : BoardK
   back : (o : Outcome) → IsReplayOutcome key.job.value key.b key.steps.value o → IsReplayOutcome job b steps o
   back o h = subst (λ (z : Job × ℕ × List Step). IsReplayOutcome z.0 z.1 z.2 o) (λ i. (is.job_is i, is.size i, is.steps_are i)) h
 
-  pub bad-outcome : (f : Failure) → IsFirstFailure key (Some f) → IsReplayOutcome job b steps (BadPivot f.statement f.row f.col)
+  pub bad-outcome : (f : Failure) → IsReplayFailure key (Some f) → IsReplayOutcome job b steps (BadPivot f.statement f.row f.col)
   bad-outcome f first = back (BadPivot f.statement f.row f.col) (replay.0, replay.1, first replay.0 replay.1)
 
   -- what the steps met is the first bad pivot that the job means
-  pub first-pivot : (failed : Option Failure) → IsFirstFailure key failed → IsFirstBadPivot job failed
+  pub first-pivot : (failed : Option Failure) → IsReplayFailure key failed → IsFirstBadPivot job failed
   first-pivot (Some f) first = outcome-means job b steps size valid fit (BadPivot f.statement f.row f.col) (bad-outcome f first)
   first-pivot None first = λ statement place bad.
       let matrices : List Grid = matrices_after key.job.value key.b key.steps.value replay.0 (length key.steps.value) in
@@ -60,7 +60,7 @@ module _ (job : Job) (b : ℕ) (steps : List Step) (workers : ℕ) (key : BoardK
     pub shapes : HaveBlockShapes (record { job = job; b = b }) blocks
     shapes = subst (λ (x : BlockedJob). HaveBlockShapes x blocks) blocked (last.have-shapes key own_valid own_size own_fit replay.0 replay.1 blocks have)
 
-    pub done-outcome : (matrices : List Grid) → IsFirstFailure key None → matrices ≡ gathered_matrices (record { job = job; b = b }) blocks
+    pub done-outcome : (matrices : List Grid) → IsReplayFailure key None → matrices ≡ gathered_matrices (record { job = job; b = b }) blocks
         → IsReplayOutcome job b steps (Done matrices)
     done-outcome matrices first are =
         back (Done matrices) (

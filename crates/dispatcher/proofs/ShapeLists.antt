@@ -14,9 +14,9 @@ use Rattle.step_replays.specs.Accesses.{first_block}
 use Rattle.job_blocks.specs.BlockedJobs.{AreFirstBlocks, BlockedJob, block_total}
 use Rattle.block_store.specs.declared.key.BoardKey.{BoardKey}
 use Rattle.block_store.specs.Blocks.{block_count}
-use Rattle.dispatcher.specs.declared.course.Size.{Size}
-use Rattle.dispatcher.specs.Courses.{AreSizes}
-use Rattle.dispatcher.specs.Desks.{size_of}
+use Rattle.dispatcher.specs.declared.shared_run.Size.{Size}
+use Rattle.dispatcher.specs.SharedRuns.{AreBlockSizes}
+use Rattle.dispatcher.specs.BufferSizes.{size_of}
 
 module _ {X : Type 0} (blocks : X → List Grid) (xs : List X) where
   -- the shapes of one more list
@@ -49,7 +49,7 @@ in-rows k p q below =
 
 -- the shapes of all blocks of a job are those of the board's
 pub are-sizes : (key : BoardKey) (x : BlockedJob) (blocks : List Grid) (sizes : List Size) → AreFirstBlocks x blocks → sizes ≡ map size_of blocks → key.job.value ≡ x.job → key.b ≡ x.b
-    → AreSizes key sizes
+    → AreBlockSizes key sizes
 are-sizes key x blocks sizes first are job_is b_is = record {
   many = many ∙ (first.count ∙ sym counted);
   rows = λ n size at. ap (λ (s : Size). s.rows) (shape n size at) ∙ sym (ap (λ (g : Grid). g.rows) (own_first n));

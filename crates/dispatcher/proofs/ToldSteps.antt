@@ -16,8 +16,8 @@ use Rattle.block_store.specs.Tallies.{gave_of, last_of, notice_of, took_of, weig
 use Rattle.block_store.specs.Views.{learned}
 use Rattle.block_store.proofs.Sums.{same-eq, same_pair-eq, same_pair-left, same_pair-right, sum_below-at}
 use Rattle.block_store.proofs.Edges.{edge-steps}
-use Rattle.ready_queue.specs.declared.hand.Hand.{Hand}
-use Rattle.ready_queue.specs.Hands.{after_push, same, times}
+use Rattle.ready_queue.specs.declared.pass_view.PassView.{PassView}
+use Rattle.ready_queue.specs.PassViews.{after_push, same, times}
 use Rattle.dispatcher.specs.Telling.{HasEndedAs, HasTold, HasToldAll, HasToldNone, AreTied, IsTellingFact, marked_view, root, told_view}
 use Rattle.dispatcher.proofs.QuietFacts.{HaveSameEvents, IsNoEvent, more-weigh, quiet-events}
 
@@ -151,32 +151,32 @@ no-root key t next is =
     let heavy : preds key next ≢ 0 = λ none. omega arith in
     rw (ne_eqb (preds key next) 0 heavy) refl
 
-pub tied-told : (key : BoardKey) (bad : Bool) (t next left : ℕ) (hand : Hand) (v : View) → left ≢ 0 → AreTied key hand v → AreTied key hand (told_view bad t next left v)
-tied-told key bad t next left hand v some tied = record {
+pub tied-told : (key : BoardKey) (bad : Bool) (t next left : ℕ) (pass : PassView) (v : View) → left ≢ 0 → AreTied key pass v → AreTied key pass (told_view bad t next left v)
+tied-told key bad t next left pass v some tied = record {
   all = λ x. omega (arith, tied.all x, marked-last bad t next x v, same_pair-right next left x 0 some);
   only = λ x. omega (arith, tied.only x, marked-last bad t next x v);
 }
 
-pub not-pushed : (key : BoardKey) (bad : Bool) (t next : ℕ) (hand : Hand) (v : View) → AreTied key hand v → 0 < edge key t next → NoLast next (marked_view bad t next v)
-    → times next hand.pushed ≡ 0
-not-pushed key bad t next hand v tied is none = omega (arith, tied.only next, marked-last bad t next next v, no-root key t next is)
+pub not-pushed : (key : BoardKey) (bad : Bool) (t next : ℕ) (pass : PassView) (v : View) → AreTied key pass v → 0 < edge key t next → NoLast next (marked_view bad t next v)
+    → times next pass.pushed ≡ 0
+not-pushed key bad t next pass v tied is none = omega (arith, tied.only next, marked-last bad t next next v, no-root key t next is)
 
-pub tied-pushed : (key : BoardKey) (bad : Bool) (t next : ℕ) (hand : Hand) (v : View) → AreTied key hand v → 0 < edge key t next → NoLast next (marked_view bad t next v)
-    → AreTied key (after_push next hand) (told_view bad t next 0 v)
-tied-pushed key bad t next hand v tied is none = record { all = λ x. all x (cases_eq x next); only = λ x. only x (cases_eq x next) }
+pub tied-pushed : (key : BoardKey) (bad : Bool) (t next : ℕ) (pass : PassView) (v : View) → AreTied key pass v → 0 < edge key t next → NoLast next (marked_view bad t next v)
+    → AreTied key (after_push next pass) (told_view bad t next 0 v)
+tied-pushed key bad t next pass v tied is none = record { all = λ x. all x (cases_eq x next); only = λ x. only x (cases_eq x next) }
   where
     -- the number that is pushed, and any other one
-    all : (x : ℕ) → (x ≡ next) ⊎ (x ≢ next) → same_pair next 0 x 0 + weigh (last_of x) (marked_view bad t next v).facts ≤ same next x + times x hand.pushed
+    all : (x : ℕ) → (x ≡ next) ⊎ (x ≢ next) → same_pair next 0 x 0 + weigh (last_of x) (marked_view bad t next v).facts ≤ same next x + times x pass.pushed
     all x (inl e) = omega (arith, same-is next x (sym e), same_pair-eq next 0 x 0 (sym e) refl, tied.all x, marked-last bad t next x v)
     all x (inr other) = omega (arith, same_pair-left next 0 x 0 (λ e. other (sym e)), tied.all x, marked-last bad t next x v)
 
-    only : (x : ℕ) → (x ≡ next) ⊎ (x ≢ next) → same next x + times x hand.pushed ≤ (same_pair next 0 x 0 + weigh (last_of x) (marked_view bad t next v).facts) + root key x
+    only : (x : ℕ) → (x ≡ next) ⊎ (x ≢ next) → same next x + times x pass.pushed ≤ (same_pair next 0 x 0 + weigh (last_of x) (marked_view bad t next v).facts) + root key x
     only x (inl e) = omega (
       arith,
       same-is next x (sym e),
       same_pair-eq next 0 x 0 (sym e) refl,
-      ap (λ y. times y hand.pushed) e,
-      not-pushed key bad t next hand v tied is none,
+      ap (λ y. times y pass.pushed) e,
+      not-pushed key bad t next pass v tied is none,
     )
     only x (inr other) = omega (arith, tied.only x, marked-last bad t next x v, same-not next x (λ e. other (sym e)))
 

@@ -2,13 +2,15 @@
 use Rattle.std.proofs.Common.{◌≡◌, ℕ, zero, suc, ◌<◌, List, [], ◌∷◌, set, length, slice_get, Some, None, refl, ap, subst, arith}
 use Rattle.std.proofs.lemmas.Option.{slice_get_within}
 use Rattle.block_store.specs.declared.seat.Board.{Board}
-use Rattle.block_store.specs.Seats.{view, IsSameSeat}
+use Rattle.block_store.specs.Seats.{key_of, view, IsSameSeat}
 use Rattle.block_store.specs.Tallies.{count_in}
 use Rattle.ready_queue.specs.declared.queue.Ready.{Ready}
 use Rattle.dispatcher.specs.declared.worker.Worker.{Worker}
 use Rattle.dispatcher.specs.Joining.{standing}
-use Rattle.dispatcher.specs.Workers.{IsDone, IsNewWorker, IsWorker}
+use Rattle.dispatcher.specs.Telling.{HasPushedRoots}
+use Rattle.dispatcher.specs.Workers.{HasSeenEnd, IsNewWorker, IsWorker}
 use Rattle.dispatcher.proofs.JoinedWorkers.{HaveEnded}
+use Rattle.dispatcher.proofs.Pushes.{roots-kept}
 
 -- ---- places
 
@@ -39,7 +41,7 @@ opened-standing k (v ∷ workers) old first at same =
 
 -- what each worker has done
 abbrev pub AreDone : Board → Ready → List Worker → List Worker → Type 0
-AreDone board ready before after = (k : ℕ) (w v : Worker) → slice_get before k ≡ Some w → slice_get after k ≡ Some v → IsDone board ready w v
+AreDone board ready before after = (k : ℕ) (w v : Worker) → slice_get before k ≡ Some w → slice_get after k ≡ Some v → HasSeenEnd board ready w v
 
 module _ (board : Board) (ready : Ready) where
   pub done-standing : (k : ℕ) (before after : List Worker) → length after ≡ length before → AreDone board ready before after → standing k after ≡ standing k before
@@ -55,3 +57,9 @@ module _ (board : Board) (ready : Ready) where
       let w = some-worker before k (omega (arith, slice_get_within after k v at)) in
       let done = each k w.0 v w.1 at in
       record { worker = done.worker; ended = done.ended }
+
+  -- the steps that the first one had pushed before
+  pub opened-roots : (workers after : List Worker) (first : Worker) → 0 < length workers → AreDone board ready (set workers 0 first) after
+      → HasPushedRoots (key_of board) first.pass → (w : Worker) → slice_get after 0 ≡ Some w → HasPushedRoots (key_of board) w.pass
+  opened-roots [] after first some each roots w at = absurd (omega arith)
+  opened-roots (v ∷ workers) after first some each roots w at = roots-kept (key_of board) first.pass w.pass (each 0 first w refl at).pushes roots

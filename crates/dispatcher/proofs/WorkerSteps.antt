@@ -20,12 +20,12 @@ use Rattle.block_store.specs.Tallies.{gave_of, last_of, took_of}
 use Rattle.block_store.specs.Views.{learned, timed}
 use Rattle.ready_queue.specs.declared.queue.Pass.{Pass}
 use Rattle.ready_queue.specs.declared.queue.Ready.{Ready}
-use Rattle.ready_queue.specs.Hands.{after_pop}
+use Rattle.ready_queue.specs.PassViews.{after_pop}
 use Rattle.ready_queue.specs.Queues.{IsPassOf}
 use Rattle.ready_queue.specs.Queues as queues
-use Rattle.dispatcher.specs.declared.desk.Desk.{Desk}
+use Rattle.dispatcher.specs.declared.buffers.Buffers.{Buffers}
 use Rattle.dispatcher.specs.declared.worker.Worker.{Worker}
-use Rattle.dispatcher.specs.Courses.{IsDesk}
+use Rattle.dispatcher.specs.SharedRuns.{AreBuffers}
 use Rattle.dispatcher.specs.Telling.{IsTied}
 use Rattle.dispatcher.specs.Workers.{IsLogged, IsNoted, IsWorker, noted_after}
 use Rattle.dispatcher.proofs.Logs.{logged-began, logged-ended, logged-same}
@@ -47,16 +47,16 @@ itself a = (refl, refl, refl)
 
 module _ (board : Board) (ready : Ready) (w : Worker) (is : IsWorker board ready w) where
   -- the seat learned of no event
-  pub worker-on : (s : Seat) (p : Pass) (d : Desk) → IsSame w.seat s → HaveSameEvents (view w.seat).facts (view s).facts
-      → ((x : ℕ) → NotHolds (view s) x) → IsPassOf ready p → IsTied (key_of board) p (view s) → IsDesk (key_of board) d
-      → IsWorker board ready (record w { seat = s; pass = p; desk = d })
-  worker-on s p d same events free pass tied desk = record {
+  pub worker-on : (s : Seat) (p : Pass) (d : Buffers) → IsSame w.seat s → HaveSameEvents (view w.seat).facts (view s).facts
+      → ((x : ℕ) → NotHolds (view s) x) → IsPassOf ready p → IsTied (key_of board) p (view s) → AreBuffers (key_of board) d
+      → IsWorker board ready (record w { seat = s; pass = p; buffers = d })
+  worker-on s p d same events free pass tied buffers = record {
     seat = seat-of board w.seat s is.seat same.0;
     empty = same.1 ∙ is.empty;
     free = free;
     pass = pass;
     tied = tied;
-    desk = desk;
+    buffers = buffers;
     long = is.long;
     logged = logged-same w.log.items (view w.seat).facts (view s).facts events is.logged;
     noted = noted-same (key_of board) (view w.seat).facts (view s).facts w.failed events is.noted;
@@ -73,8 +73,8 @@ module _ (board : Board) (ready : Ready) (w : Worker) (is : IsWorker board ready
         (record { all = λ x. omega (arith, is.tied.all x, last x); only = λ x. omega (arith, is.tied.only x) })
 
     pub worker-learned : IsNoEvent f → IsWorker board ready (record w { seat = s })
-    worker-learned quiet = worker-on s w.pass w.desk same
-        (subst (λ (v : View). HaveSameEvents (view w.seat).facts v.facts) (sym more) (quiet-fact f (view w.seat).facts quiet)) free-on is.pass tied-on is.desk
+    worker-learned quiet = worker-on s w.pass w.buffers same
+        (subst (λ (v : View). HaveSameEvents (view w.seat).facts v.facts) (sym more) (quiet-fact f (view w.seat).facts quiet)) free-on is.pass tied-on is.buffers
 
     -- an event, which is kept in the log, and maybe a failure
     pub worker-logged : (log : Vec (Option Event) Global) (failed : Option Failure) → length log.items ≡ length w.log.items
@@ -86,7 +86,7 @@ module _ (board : Board) (ready : Ready) (w : Worker) (is : IsWorker board ready
       free = free-on;
       pass = is.pass;
       tied = tied-on;
-      desk = is.desk;
+      buffers = is.buffers;
       long = long ∙ is.long;
       logged = subst (λ (v : View). IsLogged log.items v.facts) (sym more) logged;
       noted = subst (λ (v : View). IsNoted (key_of board) v.facts failed) (sym more) noted;
@@ -121,13 +121,13 @@ module _ (board : Board) (ready : Ready) (w : Worker) (is : IsWorker board ready
   pub worker-timed : (s : Seat) (n : ℕ) → IsSame w.seat s → view s ≡ timed n (view w.seat) → IsWorker board ready (record w { seat = s })
   worker-timed s n same now =
       let facts : (view s).facts ≡ (view w.seat).facts = ap (λ (v : View). v.facts) now in
-      worker-on s w.pass w.desk same (rw facts (same-events (view w.seat).facts)) (λ x. rw facts (is.free x)) is.pass
-      (record { all = λ x. rw facts (is.tied.all x); only = λ x. rw facts (is.tied.only x) }) is.desk
+      worker-on s w.pass w.buffers same (rw facts (same-events (view w.seat).facts)) (λ x. rw facts (is.free x)) is.pass
+      (record { all = λ x. rw facts (is.tied.all x); only = λ x. rw facts (is.tied.only x) }) is.buffers
 
   -- a number was popped, or none
   pub worker-popped : (p : Pass) (popped : Option ℕ) → IsPassOf ready p → IfSome popped (λ t. queues.view p ≡ after_pop t (queues.view w.pass))
       → IfNone popped (queues.view p ≡ queues.view w.pass) → IsWorker board ready (record w { pass = p })
-  worker-popped p (Some t) pass one none = worker-on w.seat p w.desk (itself w.seat, refl) (same-events (view w.seat).facts) is.free pass
-      (record { all = λ x. rw one (is.tied.all x); only = λ x. rw one (is.tied.only x) }) is.desk
-  worker-popped p None pass one none = worker-on w.seat p w.desk (itself w.seat, refl) (same-events (view w.seat).facts) is.free pass
-      (record { all = λ x. rw none (is.tied.all x); only = λ x. rw none (is.tied.only x) }) is.desk
+  worker-popped p (Some t) pass one none = worker-on w.seat p w.buffers (itself w.seat, refl) (same-events (view w.seat).facts) is.free pass
+      (record { all = λ x. rw one (is.tied.all x); only = λ x. rw one (is.tied.only x) }) is.buffers
+  worker-popped p None pass one none = worker-on w.seat p w.buffers (itself w.seat, refl) (same-events (view w.seat).facts) is.free pass
+      (record { all = λ x. rw none (is.tied.all x); only = λ x. rw none (is.tied.only x) }) is.buffers

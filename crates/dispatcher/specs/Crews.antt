@@ -15,7 +15,7 @@ use Rattle.ready_queue.specs.Queues.{steps_of}
 use Rattle.dispatcher.specs.declared.crew.Crew.{Crew}
 use Rattle.dispatcher.specs.declared.plan.Plan.{Plan}
 use Rattle.dispatcher.specs.declared.worker.Worker.{Worker}
-use Rattle.dispatcher.specs.Courses.{AreSizes}
+use Rattle.dispatcher.specs.SharedRuns.{AreBlockSizes}
 use Rattle.dispatcher.specs.Joining.{standing}
 use Rattle.dispatcher.specs.Plans.{workers_of_plan}
 use Rattle.dispatcher.specs.Workers.{IsNewWorker}
@@ -31,7 +31,7 @@ pub record IsCrew (board : Board) (c : Crew) : Type 0 where
   pub each : (k : ℕ) (w : Worker) → slice_get c.workers.items k ≡ Some w → IsNewWorker board c.ready w
   pub all : (worker : ℕ) → standing worker c.workers.items ≡ below (key_of board).workers worker
   pub queue : steps_of c.ready ≡ step_count (key_of board)
-  pub sizes : AreSizes (key_of board) c.sizes.items
+  pub sizes : AreBlockSizes (key_of board) c.sizes.items
   pub room : length c.room.items ≡ 2 * step_count (key_of board)
 
 -- no step failed, or the failed step of the least statement met this pivot
@@ -39,8 +39,8 @@ abbrev pub IsFailureOf : List Step → List StepResult → Option Failure → Ty
 IsFailureOf steps results None = IsDone steps results
 IsFailureOf steps results (Some f) = IsFailure steps results f.statement (record { row = f.row; col = f.col })
 
-abbrev pub IsFirstFailure : BoardKey → Option Failure → Type 0
-IsFirstFailure key failed = (results : List StepResult) → IsReplayOf key results → IsFailureOf key.steps.value results failed
+abbrev pub IsReplayFailure : BoardKey → Option Failure → Type 0
+IsReplayFailure key failed = (results : List StepResult) → IsReplayOf key results → IsFailureOf key.steps.value results failed
 
 -- no statement of the job meets a bad pivot, or this is its first bad pivot
 abbrev pub IsFirstBadPivot : Job → Option Failure → Type 0

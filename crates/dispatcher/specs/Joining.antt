@@ -19,7 +19,7 @@ or_event (Some e) other = Some e
 or_event None other = other
 
 -- a log has what was there, or else what another one has
-pub record IsPoured (old from new : List (Option Event)) : Type 0 where
+pub record IsJoinedLog (old from new : List (Option Event)) : Type 0 where
   pub long : length new ≡ length old
   pub mixed : (n : ℕ) → n < length old → get_or new n None ≡ or_event (get_or old n None) (get_or from n None)
 

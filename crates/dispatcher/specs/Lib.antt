@@ -1,9 +1,9 @@
+pub mod BufferSizes
 pub mod Copying
-pub mod Courses
 pub mod Crews
-pub mod Desks
 pub mod Doing
 pub mod Joining
 pub mod Plans
+pub mod SharedRuns
 pub mod Telling
 pub mod Workers

@@ -2,12 +2,12 @@
 use Rattle.std.specs.Prelude.{ℕ, ◌≤◌, max, min, length}
 use Rattle.equation.specs.Jobs.{IsJob}
 use Rattle.step_replays.specs.Fits.{FitsJob}
-use Rattle.block_store.specs.Keys.{most_steps}
+use Rattle.issue_list.specs.CanonicalSteps.{most_steps}
 use Rattle.dispatcher.specs.declared.plan.Plan.{Plan}
 
 -- how many workers a run has at most
-abbrev pub most_workers : ℕ
-most_workers = 16
+abbrev pub most_plan_workers : ℕ
+most_plan_workers = 16
 
 -- the steps fit the job under a block size, there aren't too many, and there is a worker, and no more than sixteen
 pub record IsPlan (p : Plan) : Type 0 where
@@ -16,7 +16,7 @@ pub record IsPlan (p : Plan) : Type 0 where
   pub fit : FitsJob p.job.now p.b p.steps.now
   pub few : length p.steps.now ≤ most_steps
   pub some_worker : 1 ≤ p.workers
-  pub few_workers : p.workers ≤ most_workers
+  pub few_workers : p.workers ≤ most_plan_workers
 
 -- how many workers run a plan: as many as it asks for, though no more than there are steps, and one at least
 abbrev pub workers_of_plan : Plan → ℕ

@@ -6,10 +6,10 @@ use Rattle.block_store.specs.declared.view.Fact.TheVariants.{Refused, Marked, No
 use Rattle.block_store.specs.declared.view.View.{View}
 use Rattle.block_store.specs.Keys.{edge, preds, IsStep}
 use Rattle.block_store.specs.Plays.{NotMarked, NotNoticed, HasEndedBad}
-use Rattle.block_store.specs.Tallies.{weigh, good_of, last_of, notice_of}
+use Rattle.block_store.specs.Tallies.{In, weigh, good_of, last_of, notice_of}
 use Rattle.block_store.specs.Views.{learned}
-use Rattle.ready_queue.specs.declared.hand.Hand.{Hand}
-use Rattle.ready_queue.specs.Hands.{times}
+use Rattle.ready_queue.specs.declared.pass_view.PassView.{PassView}
+use Rattle.ready_queue.specs.PassViews.{times}
 use Rattle.ready_queue.specs.Queues as queues
 use Rattle.ready_queue.specs.declared.queue.Pass.{Pass}
 
@@ -42,13 +42,17 @@ root key x = if preds key x == 0 then 1 else 0
 
 -- a step that a seat with this view told last was pushed, in the view of a pass, and nothing else was but steps into which no edge
 -- goes
-pub record AreTied (key : BoardKey) (hand : Hand) (v : View) : Type 0 where
-  pub all : (x : ℕ) → weigh (last_of x) v.facts ≤ times x hand.pushed
-  pub only : (x : ℕ) → times x hand.pushed ≤ weigh (last_of x) v.facts + root key x
+pub record AreTied (key : BoardKey) (pass : PassView) (v : View) : Type 0 where
+  pub all : (x : ℕ) → weigh (last_of x) v.facts ≤ times x pass.pushed
+  pub only : (x : ℕ) → times x pass.pushed ≤ weigh (last_of x) v.facts + root key x
 
 -- the same of a pass
 abbrev pub IsTied : BoardKey → Pass → View → Type 0
 IsTied key pass v = AreTied key (queues.view pass) v
+
+-- what a pass had pushed it has pushed still
+abbrev pub KeepsPushes : Pass → Pass → Type 0
+KeepsPushes old new = (x : ℕ) → times x (queues.view old).pushed ≤ times x (queues.view new).pushed
 
 -- each step into which no edge goes was pushed
 abbrev pub HasPushedRoots : BoardKey → Pass → Type 0
@@ -80,3 +84,17 @@ pub record HasFinished (key : BoardKey) (t : ℕ) (v : View) : Type 0 where
 -- a seat was refused step t and learned nothing else, or it has ended it and told the steps behind it
 abbrev pub HasHandled : BoardKey → ℕ → View → View → Type 0
 HasHandled key t before after = ((word : ℕ) × (after ≡ learned (Refused t word) before)) ⊎ HasFinished key t after
+
+-- ---- all steps that were popped
+
+-- what a view had learned it has still
+abbrev pub KeepsFacts : View → View → Type 0
+KeepsFacts old new = (more : List Fact) × (new.facts ≡ more ++ old.facts)
+
+-- the view was refused step t, or has ended it and told the steps behind it
+abbrev pub IsHandled : BoardKey → ℕ → View → Type 0
+IsHandled key t v = ((word : ℕ) × In (Refused t word) v.facts) ⊎ HasFinished key t v
+
+-- each number that a pass popped since it was an old one
+abbrev pub AreHandled : BoardKey → Pass → Pass → View → Type 0
+AreHandled key old new v = (t : ℕ) → times t (queues.view old).popped < times t (queues.view new).popped → IsHandled key t v

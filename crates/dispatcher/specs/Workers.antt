@@ -18,8 +18,8 @@ use Rattle.block_store.specs.Tallies.{In}
 use Rattle.ready_queue.specs.Queues.{IsPassOf, IsFirstPass}
 use Rattle.ready_queue.specs.declared.queue.Ready.{Ready}
 use Rattle.dispatcher.specs.declared.worker.Worker.{Worker}
-use Rattle.dispatcher.specs.Courses.{IsDesk}
-use Rattle.dispatcher.specs.Telling.{IsTied}
+use Rattle.dispatcher.specs.SharedRuns.{AreBuffers}
+use Rattle.dispatcher.specs.Telling.{AreHandled, IsTied, KeepsPushes}
 
 -- ---- events
 
@@ -68,7 +68,7 @@ pub record IsWorker (board : Board) (ready : Ready) (w : Worker) : Type 0 where
   pub free : (x : ℕ) → NotHolds (view w.seat) x
   pub pass : IsPassOf ready w.pass
   pub tied : IsTied (key_of board) w.pass (view w.seat)
-  pub desk : IsDesk (key_of board) w.desk
+  pub buffers : AreBuffers (key_of board) w.buffers
   pub long : length w.log.items ≡ 2 * step_count (key_of board)
   pub logged : IsLogged w.log.items (view w.seat).facts
   pub noted : IsNoted (key_of board) (view w.seat).facts w.failed
@@ -79,8 +79,10 @@ pub record IsNewWorker (board : Board) (ready : Ready) (w : Worker) : Type 0 whe
   pub seat : IsNewSeat board w.seat
   pub pass : IsFirstPass ready w.pass
 
--- a worker that has seen the end of all steps, and its seat before
-pub record IsDone (board : Board) (ready : Ready) (old new : Worker) : Type 0 where
+-- a worker that has seen the end of all steps, and what it was before: it has handled each step that it popped since
+pub record HasSeenEnd (board : Board) (ready : Ready) (old new : Worker) : Type 0 where
   pub worker : IsWorker board ready new
   pub same : IsSameSeat old.seat new.seat
+  pub pushes : KeepsPushes old.pass new.pass
+  pub handled : AreHandled (key_of board) old.pass new.pass (view new.seat)
   pub ended : (view new.seat).clock ≡ 2 * step_count (key_of board)

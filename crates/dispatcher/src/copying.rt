@@ -7,9 +7,9 @@ ghost use Rattle.block_store.specs.Keys.{IsStep};
 ghost use Rattle.block_store.specs.Plays.{IsRunning, NotHolds};
 ghost use Rattle.block_store.specs.Seats.{key_of, view, IsSame, IsSameSeat, IsSeatOf};
 ghost use Rattle.dispatcher.specs.Copying.{block_with, AreCopied, HasBlockSize, HasCopied, HoldsOne, IsKeptOn};
-ghost use Rattle.dispatcher.specs.Courses.{entries_of, entry_count, IsCourse};
+ghost use Rattle.dispatcher.specs.SharedRuns.{entries_of, entry_count, IsSharedRun};
 
-use crate::course::{Course, Size};
+use crate::shared_run::{SharedRun, Size};
 use block_kernels::Cut;
 use block_store::{Copied, Rect, Seat};
 use dependence_queue::Access;
@@ -17,10 +17,10 @@ use matrix_parts::{PartMut, whole_of};
 use std::sync::Wait;
 use std::thread::yield_now;
 
-impl<'a> Course<'a> {
+impl<'a> SharedRun<'a> {
     /// What a step uses.
     fn access(&self, t: u32) -> &'a Access
-        requires course { IsCourse self.now }
+        requires shared { IsSharedRun self.now }
         requires step { IsStep (key_of self.now.board.now) t }
         ensures { result.now ≡ access_of (key_of self.now.board.now) t }
     {
@@ -29,7 +29,7 @@ impl<'a> Course<'a> {
 
     /// The block that a step writes.
     pub(crate) fn written(&self, t: u32) -> u32
-        requires course { IsCourse self.now }
+        requires shared { IsSharedRun self.now }
         requires step { IsStep (key_of self.now.board.now) t }
         ensures is { result ≡ (access_of (key_of self.now.board.now) t).write }
         ensures there { result < block_count (key_of self.now.board.now) }
@@ -39,7 +39,7 @@ impl<'a> Course<'a> {
 
     /// How many blocks a step reads.
     fn read_count(&self, t: u32) -> usize
-        requires course { IsCourse self.now }
+        requires shared { IsSharedRun self.now }
         requires step { IsStep (key_of self.now.board.now) t }
         ensures { result ≡ length (access_of (key_of self.now.board.now) t).reads }
     {
@@ -48,7 +48,7 @@ impl<'a> Course<'a> {
 
     /// Block k of those that a step reads, from 0.
     fn read_at(&self, t: u32, k: usize) -> u32
-        requires course { IsCourse self.now }
+        requires shared { IsSharedRun self.now }
         requires step { IsStep (key_of self.now.board.now) t }
         requires within { k < length (access_of (key_of self.now.board.now) t).reads }
         ensures is { result ≡ slice_index (access_of (key_of self.now.board.now) t).reads k }
@@ -60,7 +60,7 @@ impl<'a> Course<'a> {
 
     /// The shape of a block.
     pub(crate) fn size(&self, x: u32) -> Size
-        requires course { IsCourse self.now }
+        requires shared { IsSharedRun self.now }
         requires block { x < block_count (key_of self.now.board.now) }
         ensures rows { result.rows ≡ block_rows (key_of self.now.board.now) x }
         ensures cols { result.cols ≡ block_cols (key_of self.now.board.now) x }
@@ -70,7 +70,7 @@ impl<'a> Course<'a> {
 
     /// All of a block.
     fn whole(&self, x: u32) -> Rect
-        requires course { IsCourse self.now }
+        requires shared { IsSharedRun self.now }
         requires block { x < block_count (key_of self.now.board.now) }
         ensures { result ≡ record {
           row = 0;
@@ -91,7 +91,7 @@ impl<'a> Course<'a> {
     /// Copies a whole block that a step uses into a part of its size. While another seat holds the block, it lets other threads
     /// run and tries again.
     fn copy_whole<R: Wait>(&self, rt: &R, seat: &mut Seat, t: u32, x: u32, buffer: &mut PartMut<'_>)
-        requires course { IsCourse self.now }
+        requires shared { IsSharedRun self.now }
         requires seat { IsSeatOf self.now.board.now seat.old }
         requires block { x < block_count (key_of self.now.board.now) }
         requires runs { IsRunning (view seat.old) t }
@@ -119,7 +119,7 @@ impl<'a> Course<'a> {
 
     /// Copies a whole block that a step uses into as many numbers as it has entries.
     fn copy_block<R: Wait>(&self, rt: &R, seat: &mut Seat, t: u32, x: u32, entries: &mut [u64])
-        requires course { IsCourse self.now }
+        requires shared { IsSharedRun self.now }
         requires seat { IsSeatOf self.now.board.now seat.old }
         requires block { x < block_count (key_of self.now.board.now) }
         requires runs { IsRunning (view seat.old) t }
@@ -148,7 +148,7 @@ impl<'a> Course<'a> {
         room: &mut [u64],
         cuts: &mut [Cut],
     ) -> usize
-        requires course { IsCourse self.now }
+        requires shared { IsSharedRun self.now }
         requires seat { IsSeatOf self.now.board.now seat.old }
         requires step { IsStep (key_of self.now.board.now) t }
         requires runs { IsRunning (view seat.old) t }
@@ -190,7 +190,7 @@ impl<'a> Course<'a> {
         x: u32,
         buffer: &mut PartMut<'_>,
     )
-        requires course { IsCourse self.now }
+        requires shared { IsSharedRun self.now }
         requires seat { IsSeatOf self.now.board.now seat.old }
         requires block { x < block_count (key_of self.now.board.now) }
         requires writes { x ≡ (access_of (key_of self.now.board.now) t).write }

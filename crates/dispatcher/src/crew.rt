@@ -5,14 +5,14 @@ ghost use Rattle.block_store.specs.Blocks.{block_count};
 ghost use Rattle.block_store.specs.Keys.{step_count};
 ghost use Rattle.block_store.specs.Seats.{key_of, AreFirstSeats, IsNewSeat};
 ghost use Rattle.ready_queue.specs.Queues.{IsFirstPass};
-ghost use Rattle.dispatcher.specs.Courses.{AreSizes, IsDesk};
+ghost use Rattle.dispatcher.specs.SharedRuns.{AreBlockSizes, AreBuffers};
 ghost use Rattle.dispatcher.specs.Crews.{IsBoardOf, IsCrew};
 ghost use Rattle.dispatcher.specs.Plans.{IsPlan};
 ghost use Rattle.dispatcher.specs.Workers.{IsNewWorker};
 
-use crate::course::Size;
-use crate::desk::block_sizes;
+use crate::buffers::block_sizes;
 use crate::plan::Plan;
+use crate::shared_run::Size;
 use crate::worker::Worker;
 use block_store::{Board, Seats};
 use ready_queue::Ready;

@@ -10,11 +10,11 @@ ghost use Rattle.block_store.specs.Keys.{is_bad, IsOutcome, IsStep};
 ghost use Rattle.block_store.specs.Plays.{HasClaimed, HasPut, IsRunning, NotHolds};
 ghost use Rattle.block_store.specs.Seats.{key_of, view, IsSame, IsSameSeat, IsSeatOf};
 ghost use Rattle.dispatcher.specs.Copying.{HasBlockSize, HoldsOne, IsActive, IsKeptOn};
-ghost use Rattle.dispatcher.specs.Courses.{IsCourse, IsDesk};
+ghost use Rattle.dispatcher.specs.SharedRuns.{IsSharedRun, AreBuffers};
 ghost use Rattle.dispatcher.specs.Doing.{HasMovedBlocks};
 
-use crate::course::Course;
-use crate::desk::Desk;
+use crate::buffers::Buffers;
+use crate::shared_run::SharedRun;
 use block_kernels::StoredBlocks;
 use block_store::{Seat, StepOutcome};
 use equation::Place;
@@ -22,7 +22,7 @@ use matrix_parts::{PartMut, whole_of};
 use outside_io::Gate;
 use std::sync::Wait;
 
-impl Course<'_> {
+impl SharedRun<'_> {
     /// Does a step that this seat has begun: copies the blocks that it reads into the worker's buffers, keeps the block that it
     /// writes, lets its kernel change a copy of that, and puts the copy in its place; where the kernel meets a bad pivot, the block
     /// goes back as it was. A step that is skipped moves nothing. The gate stands round all that but for a skipped step.
@@ -30,62 +30,68 @@ impl Course<'_> {
         &self,
         rt: &R,
         seat: &mut Seat,
-        desk: &mut Desk,
+        buffers: &mut Buffers,
         t: u32,
         gate: &G,
     ) -> StepOutcome
-        requires course { IsCourse self.now }
+        requires shared { IsSharedRun self.now }
         requires seat { IsSeatOf self.now.board.now seat.old }
         requires step { IsStep (key_of self.now.board.now) t }
         requires claimed { HasClaimed (view seat.old) t }
         requires runs { IsRunning (view seat.old) t }
         requires free { (x : ℕ) → NotHolds (view seat.old) x }
-        requires desk { IsDesk (key_of self.now.board.now) desk.old }
+        requires buffers { AreBuffers (key_of self.now.board.now) buffers.old }
         ensures same { IsSame seat.old seat.new }
         ensures moved { HasMovedBlocks t (view seat.old) (view seat.new) }
         ensures free { (x : ℕ) → NotHolds (view seat.new) x }
         ensures outcome { IsOutcome (key_of self.now.board.now) t result }
         ensures put { (is_bad result ≡ true) ⊎ HasPut (view seat.new) t }
-        ensures desk { IsDesk (key_of self.now.board.now) desk.new }
+        ensures buffers { AreBuffers (key_of self.now.board.now) buffers.new }
     {
         if self.board.is_skipped(seat, t) {
             return StepOutcome::Skipped;
         }
         gate.enter(t);
-        let outcome = self.compute(rt, seat, desk, t);
+        let outcome = self.compute(rt, seat, buffers, t);
         gate.leave(t);
         outcome
     }
 
     /// Does a step that isn't skipped.
-    fn compute<R: Wait>(&self, rt: &R, seat: &mut Seat, desk: &mut Desk, t: u32) -> StepOutcome
-        requires course { IsCourse self.now }
+    fn compute<R: Wait>(
+        &self,
+        rt: &R,
+        seat: &mut Seat,
+        buffers: &mut Buffers,
+        t: u32,
+    ) -> StepOutcome
+        requires shared { IsSharedRun self.now }
         requires seat { IsSeatOf self.now.board.now seat.old }
         requires step { IsStep (key_of self.now.board.now) t }
         requires active { IsActive (key_of self.now.board.now) t }
         requires runs { IsRunning (view seat.old) t }
         requires free { (x : ℕ) → NotHolds (view seat.old) x }
-        requires desk { IsDesk (key_of self.now.board.now) desk.old }
+        requires buffers { AreBuffers (key_of self.now.board.now) buffers.old }
         ensures same { IsSame seat.old seat.new }
         ensures moved { HasMovedBlocks t (view seat.old) (view seat.new) }
         ensures free { (x : ℕ) → NotHolds (view seat.new) x }
         ensures outcome { IsOutcome (key_of self.now.board.now) t result }
         ensures put { (is_bad result ≡ true) ⊎ HasPut (view seat.new) t }
-        ensures desk { IsDesk (key_of self.now.board.now) desk.new }
+        ensures buffers { AreBuffers (key_of self.now.board.now) buffers.new }
     {
-        let count = self.copy_reads(rt, seat, t, &mut desk.reads, &mut desk.cuts);
+        let count = self.copy_reads(rt, seat, t, &mut buffers.reads, &mut buffers.cuts);
         let x = self.written(t);
         let size = self.size(x);
         let len = size.rows as usize * size.cols as usize;
-        let write = desk.write.as_mut_slice();
+        let write = buffers.write.as_mut_slice();
         let mut part = whole_of(&mut write[..len], size.rows, size.cols);
         self.keep_whole(rt, seat, t, x, &mut part);
-        let reads = StoredBlocks::of_room(&desk.reads, &desk.cuts[..count]);
-        let numbers = &desk.numbers[..count];
+        let reads = StoredBlocks::of_room(&buffers.reads, &buffers.cuts[..count]);
+        let numbers = &buffers.numbers[..count];
         let n = t as usize - 1;
         let bad = self
             .run
-            .step(n, &reads, numbers, &mut part, &mut desk.spare);
+            .step(n, &reads, numbers, &mut part, &mut buffers.spare);
         let outcome = self.hand_back(seat, t, x, &part, bad);
         let _ = write.len();
         outcome
@@ -100,7 +106,7 @@ impl Course<'_> {
         part: &PartMut<'_>,
         bad: Option<Place>,
     ) -> StepOutcome
-        requires course { IsCourse self.now }
+        requires shared { IsSharedRun self.now }
         requires seat { IsSeatOf self.now.board.now seat.old }
         requires step { IsStep (key_of self.now.board.now) t }
         requires block { x < block_count (key_of self.now.board.now) }

@@ -9,7 +9,7 @@ ghost use Rattle.task_values.specs.Outcomes.{IsMeaning, IsOnlyMeaning, IsReplayO
 ghost use Rattle.block_store.specs.Keys.{step_count};
 ghost use Rattle.block_store.specs.Plays.{NotHolds, StandsForAll};
 ghost use Rattle.block_store.specs.Seats.{key_of, view, IsSeatOf};
-ghost use Rattle.dispatcher.specs.Crews.{IsBoardOf, IsFirstFailure};
+ghost use Rattle.dispatcher.specs.Crews.{IsBoardOf, IsReplayFailure};
 ghost use Rattle.dispatcher.specs.Plans.{IsPlan, workers_of_plan};
 
 use crate::crew::Crew;
@@ -86,7 +86,7 @@ fn outcome_by(
     requires all { StandsForAll (key_of board) (view seat) }
     requires ended { (view seat).clock ≡ 2 * step_count (key_of board) }
     requires free { (x : ℕ) → NotHolds (view seat) x }
-    requires failed { IsFirstFailure (key_of board) failed }
+    requires failed { IsReplayFailure (key_of board) failed }
     ensures { IfOk result (IsReplayOutcome plan.now.job.now plan.now.b plan.now.steps.now) }
 {
     match failed {

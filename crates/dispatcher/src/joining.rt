@@ -10,13 +10,13 @@ ghost use Rattle.block_store.specs.Stamps.{AreByStamps};
 ghost use Rattle.block_store.specs.Sums.{below};
 ghost use Rattle.block_store.specs.Views.{both_views};
 ghost use Rattle.dispatcher.specs.declared.worker.Worker.{Worker};
-ghost use Rattle.dispatcher.specs.Courses.{IsCourse};
-ghost use Rattle.dispatcher.specs.Crews.{IsFirstFailure};
-ghost use Rattle.dispatcher.specs.Joining.{both_noted, HasEnded, IsJoined, IsPoured, standing};
+ghost use Rattle.dispatcher.specs.SharedRuns.{IsSharedRun};
+ghost use Rattle.dispatcher.specs.Crews.{IsReplayFailure};
+ghost use Rattle.dispatcher.specs.Joining.{both_noted, HasEnded, IsJoined, IsJoinedLog, standing};
 ghost use Rattle.dispatcher.specs.Workers.{IsWorker};
 
-use crate::course::Course;
 use crate::running::Ran;
+use crate::shared_run::SharedRun;
 use crate::worker::Worker;
 use block_store::Seat;
 use schedule_core::{Event, EventList, lesser};
@@ -49,9 +49,9 @@ impl Joined {
 }
 
 /// Takes over the events of another log, where this one has none.
-fn pour(into: &mut [Option<Event>], from: &[Option<Event>])
+fn join_logs(into: &mut [Option<Event>], from: &[Option<Event>])
     requires { length into.old ≡ length from.now }
-    ensures { IsPoured into.old from.now into.new }
+    ensures { IsJoinedLog into.old from.now into.new }
 {
     for at in 0..into.len() {
         if into[at].is_none() {
@@ -86,10 +86,10 @@ fn put_in_order(log: &[Option<Event>], schedule: &mut [Event])
     }
 }
 
-impl Course<'_> {
+impl SharedRun<'_> {
     /// Joins one worker more.
-    fn absorb(&self, joined: &mut Joined, worker: Worker)
-        requires course { IsCourse self.now }
+    fn join_worker(&self, joined: &mut Joined, worker: Worker)
+        requires shared { IsSharedRun self.now }
         requires joined { IsJoined self.now.board.now joined.old }
         requires worker { IsWorker self.now.board.now self.now.ready.now worker }
         ensures joined { IsJoined self.now.board.now joined.new }
@@ -102,13 +102,13 @@ impl Course<'_> {
             ..
         } = worker;
         self.board.join(&mut joined.seat, seat);
-        pour(joined.log.as_mut_slice(), log.as_slice());
+        join_logs(joined.log.as_mut_slice(), log.as_slice());
         joined.failed = lesser_noted(joined.failed, failed);
     }
 
     /// Joins all workers, and loads the clock with their seat.
     fn join_all(&self, mut workers: Vec<Worker>) -> Joined
-        requires course { IsCourse self.now }
+        requires shared { IsSharedRun self.now }
         requires some { 0 < length workers.items }
         requires workers { (k : ℕ) (w : Worker) → slice_get workers.items k ≡ Some w
             → HasEnded self.now.board.now self.now.ready.now w }
@@ -125,15 +125,15 @@ impl Course<'_> {
         };
         let mut joined = Joined::of(last);
         while let Some(worker) = workers.pop() {
-            self.absorb(&mut joined, worker);
+            self.join_worker(&mut joined, worker);
         }
         self.board.clock(&mut joined.seat);
         joined
     }
 
     /// Joins the workers of a run, puts their events in the order of the stamps, in a room for them, and answers what they came to.
-    pub(crate) fn settle(&self, workers: Vec<Worker>, room: Vec<Event>) -> Ran
-        requires course { IsCourse self.now }
+    pub(crate) fn collect(&self, workers: Vec<Worker>, room: Vec<Event>) -> Ran
+        requires shared { IsSharedRun self.now }
         requires some { 0 < length workers.items }
         requires workers { (k : ℕ) (w : Worker) → slice_get workers.items k ≡ Some w
             → HasEnded self.now.board.now self.now.ready.now w }
@@ -147,7 +147,7 @@ impl Course<'_> {
         ensures stamps { AreByStamps (view result.seat).facts result.schedule }
         ensures schedule { IsSchedule (step_access self.now.run.steps.now)
             (length self.now.run.steps.now) result.schedule }
-        ensures failed { IsFirstFailure (key_of self.now.board.now) result.failed }
+        ensures failed { IsReplayFailure (key_of self.now.board.now) result.failed }
     {
         let joined = self.join_all(workers);
         let mut schedule = room;

@@ -1,13 +1,13 @@
 //! How much room the steps of a plan need.
 
-ghost use Rattle.std.specs.Prelude.{◌≡◌, ◌+◌, ◌<◌, ◌≤◌, ℕ, length, All, IfOk};
+ghost use Rattle.std.specs.Prelude.{◌≡◌, ◌+◌, ◌<◌, ℕ, length, max, All, IfOk};
 ghost use Rattle.step_replays.specs.Replays.{nth_access};
 ghost use Rattle.block_store.specs.Blocks.{block_count};
 ghost use Rattle.block_store.specs.Seats.{key_of};
-ghost use Rattle.dispatcher.specs.Courses.{entries_of, entry_count, AreSizes};
-ghost use Rattle.dispatcher.specs.Desks.{HasRoom, HaveRoom, NamesBlocks};
+ghost use Rattle.dispatcher.specs.SharedRuns.{entries_of, entry_count, AreBlockSizes};
+ghost use Rattle.dispatcher.specs.BufferSizes.{need_of, HaveRoom, NamesBlocks, NeedRoom};
 
-use crate::course::Size;
+use crate::shared_run::Size;
 use block_store::Board;
 use dependence_queue::Access;
 use std::alloc::AllocError;
@@ -21,12 +21,13 @@ pub(crate) struct Room {
     pub(crate) write: usize,
 }
 
-/// Room for each of these steps. Its one error is want of memory: a machine can't number the entries that a step reads.
+/// The least room for each of these steps. Its one error is want of memory: a machine can't number the entries that a step reads.
 pub(crate) fn room_for(board: &Board, steps: &[Step], sizes: &[Size]) -> Result<Room, AllocError>
     requires names { (p : ℕ) → p < length steps.now
         → NamesBlocks (key_of board.now) (nth_access steps.now p) }
-    requires sizes { AreSizes (key_of board.now) sizes.now }
-    ensures { IfOk result (HaveRoom (key_of board.now) steps.now (length steps.now)) }
+    requires sizes { AreBlockSizes (key_of board.now) sizes.now }
+    ensures enough { IfOk result (HaveRoom (key_of board.now) steps.now (length steps.now)) }
+    ensures least { IfOk result (NeedRoom (key_of board.now) steps.now (length steps.now)) }
 {
     let mut room = Room {
         reads: 0,
@@ -40,11 +41,11 @@ pub(crate) fn room_for(board: &Board, steps: &[Step], sizes: &[Size]) -> Result<
     Ok(room)
 }
 
-/// Room for both of two steps.
+/// The least room for both of two steps.
 fn larger(room: Room, other: Room) -> Room
-    ensures reads { (room.reads ≤ result.reads) × (other.reads ≤ result.reads) }
-    ensures cuts { (room.cuts ≤ result.cuts) × (other.cuts ≤ result.cuts) }
-    ensures write { (room.write ≤ result.write) × (other.write ≤ result.write) }
+    ensures reads { result.reads ≡ max room.reads other.reads }
+    ensures cuts { result.cuts ≡ max room.cuts other.cuts }
+    ensures write { result.write ≡ max room.write other.write }
 {
     Room {
         reads: room.reads.max(other.reads),
@@ -53,11 +54,11 @@ fn larger(room: Room, other: Room) -> Room
     }
 }
 
-/// Room for one step.
+/// The room that one step needs.
 fn need_of(board: &Board, access: &Access, sizes: &[Size]) -> Result<Room, AllocError>
     requires names { NamesBlocks (key_of board.now) access.now }
-    requires sizes { AreSizes (key_of board.now) sizes.now }
-    ensures { IfOk result (HasRoom (key_of board.now) access.now) }
+    requires sizes { AreBlockSizes (key_of board.now) sizes.now }
+    ensures { IfOk result (λ room. room ≡ need_of (key_of board.now) access.now) }
 {
     let reads = access.reads.as_slice();
     Ok(Room {
@@ -70,7 +71,7 @@ fn need_of(board: &Board, access: &Access, sizes: &[Size]) -> Result<Room, Alloc
 /// How many entries these blocks have together.
 fn entries_of(board: &Board, reads: &[u32], sizes: &[Size]) -> Result<usize, AllocError>
     requires there { All (λ x. x < block_count (key_of board.now)) reads.now }
-    requires sizes { AreSizes (key_of board.now) sizes.now }
+    requires sizes { AreBlockSizes (key_of board.now) sizes.now }
     ensures { IfOk result (λ n. n ≡ entries_of (key_of board.now) reads.now) }
 {
     let mut sum: usize = 0;
@@ -94,7 +95,7 @@ fn plus(a: usize, b: usize) -> Result<usize, AllocError>
 /// How many entries a block has.
 fn entry_count(board: &Board, x: u32, sizes: &[Size]) -> usize
     requires there { x < block_count (key_of board.now) }
-    requires sizes { AreSizes (key_of board.now) sizes.now }
+    requires sizes { AreBlockSizes (key_of board.now) sizes.now }
     ensures { result ≡ entry_count (key_of board.now) x }
 {
     let _ = board;

@@ -9,20 +9,20 @@ ghost use Rattle.block_store.specs.Keys.{step_count};
 ghost use Rattle.block_store.specs.Plays.{NotHolds, StandsForAll};
 ghost use Rattle.block_store.specs.Seats.{key_of, view, IsSameSeat, IsSeatOf};
 ghost use Rattle.block_store.specs.Stamps.{AreByStamps};
-ghost use Rattle.ready_queue.specs.Hands.{times};
+ghost use Rattle.ready_queue.specs.PassViews.{times};
 ghost use Rattle.ready_queue.specs.Queues.{IsFirstPass, IsPassOf};
 ghost use Rattle.ready_queue.specs.Queues as queues;
 ghost use Rattle.dispatcher.specs.declared.worker.Worker.{Worker};
-ghost use Rattle.dispatcher.specs.Courses.{IsCourse};
-ghost use Rattle.dispatcher.specs.Crews.{IsBoardOf, IsCrew, IsFirstBadPivot, IsFirstFailure};
+ghost use Rattle.dispatcher.specs.SharedRuns.{IsSharedRun};
+ghost use Rattle.dispatcher.specs.Crews.{IsBoardOf, IsCrew, IsFirstBadPivot, IsReplayFailure};
 ghost use Rattle.dispatcher.specs.Plans.{IsPlan};
 ghost use Rattle.dispatcher.specs.Joining.{standing, HasEnded};
 ghost use Rattle.dispatcher.specs.Telling.{root, HasPushedRoots};
 ghost use Rattle.dispatcher.specs.Workers.{IsNewWorker, IsWorker};
 
-use crate::course::Course;
 use crate::crew::Crew;
 use crate::plan::Plan;
+use crate::shared_run::SharedRun;
 use crate::worker::Worker;
 use block_store::{Board, Seat};
 use crossbeam_utils::sync::EventCount;
@@ -43,10 +43,10 @@ pub struct Ran {
     pub seat: Seat,
 }
 
-impl Course<'_> {
+impl SharedRun<'_> {
     /// Pushes each step into which no edge goes.
     fn push_first<R: Wait>(&self, rt: &R, pass: &mut Pass)
-        requires course { IsCourse self.now }
+        requires shared { IsSharedRun self.now }
         requires pass { IsFirstPass self.now.ready.now pass.old }
         ensures pass { IsPassOf self.now.ready.now pass.new }
         ensures first { (x : ℕ) → times x (queues.view pass.new).pushed
@@ -62,7 +62,7 @@ impl Course<'_> {
 
     /// A new worker pushes them.
     fn open<R: Wait>(&self, rt: &R, worker: &mut Worker)
-        requires course { IsCourse self.now }
+        requires shared { IsSharedRun self.now }
         requires worker { IsNewWorker self.now.board.now self.now.ready.now worker.old }
         ensures worker { IsWorker self.now.board.now self.now.ready.now worker.new }
         ensures same { IsSameSeat worker.old.seat worker.new.seat }
@@ -73,10 +73,12 @@ impl Course<'_> {
 
     /// One of the workers pushes the steps into which no edge goes, and then all take steps until all have ended.
     fn go<R: Threads + Wait + Sync, G: Gate>(&self, rt: &R, workers: &mut [Worker], gate: &G)
-        requires course { IsCourse self.now }
+        requires shared { IsSharedRun self.now }
         requires some { 0 < length workers.old }
         requires workers { (k : ℕ) (w : Worker) → slice_get workers.old k ≡ Some w
             → IsNewWorker self.now.board.now self.now.ready.now w }
+        ensures roots { (w : Worker) → slice_get workers.new 0 ≡ Some w
+            → HasPushedRoots (key_of self.now.board.now) w.pass }
         ensures ended { (k : ℕ) (w : Worker) → slice_get workers.new k ≡ Some w
             → HasEnded self.now.board.now self.now.ready.now w }
         ensures all { (k : ℕ) → standing k workers.new ≡ standing k workers.old }
@@ -109,7 +111,7 @@ pub fn run<R: Threads + Wait + Sync, G: Gate>(
     ensures stamps { AreByStamps (view result.seat).facts result.schedule }
     ensures schedule { IsSchedule (step_access plan.now.steps.now) (length plan.now.steps.now)
         result.schedule }
-    ensures failed { IsFirstFailure (key_of board.now) result.failed }
+    ensures failed { IsReplayFailure (key_of board.now) result.failed }
     ensures pivot { IsFirstBadPivot plan.now.job.now result.failed }
 {
     let Crew {
@@ -118,8 +120,8 @@ pub fn run<R: Threads + Wait + Sync, G: Gate>(
         sizes,
         room,
     } = crew;
-    let bell = EventCount::new();
-    let course = Course {
+    let event_count = EventCount::new();
+    let shared = SharedRun {
         run: Run {
             job: plan.job,
             b: plan.b,
@@ -129,8 +131,8 @@ pub fn run<R: Threads + Wait + Sync, G: Gate>(
         board,
         ready: &ready,
         sizes: sizes.as_slice(),
-        bell: &bell,
+        event_count: &event_count,
     };
-    course.go(rt, workers.as_mut_slice(), gate);
-    course.settle(workers, room)
+    shared.go(rt, workers.as_mut_slice(), gate);
+    shared.collect(workers, room)
 }

@@ -8,9 +8,9 @@ ghost use Rattle.flash_blocks.specs.Flashes.{cut_of};
 ghost use Rattle.step_replays.specs.Accesses.{statement_of, zero_list_by};
 ghost use Rattle.job_blocks.specs.BlockedJobs.{HasStatement};
 ghost use Rattle.job_blocks.specs.Tables.{matrix_blocks, zero_list, zero_lists};
-ghost use Rattle.dispatcher.specs.Desks.{size_of};
+ghost use Rattle.dispatcher.specs.BufferSizes.{size_of};
 
-use crate::course::Size;
+use crate::shared_run::Size;
 use job_blocks::JobBlocks;
 use matrix_core::Matrix;
 use operation_spec::Form;

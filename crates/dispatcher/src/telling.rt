@@ -5,18 +5,19 @@ ghost use Rattle.block_store.specs.Keys.{edge, IsStep};
 ghost use Rattle.block_store.specs.Plays.{NotMarked, NotNoticed};
 ghost use Rattle.block_store.specs.Seats.{key_of, view, IsSame, IsSeatOf};
 ghost use Rattle.ready_queue.specs.Queues.{IsPassOf};
-ghost use Rattle.dispatcher.specs.Courses.{IsCourse};
-ghost use Rattle.dispatcher.specs.Telling.{HasEndedAs, HasTold, HasToldAll, HasToldNone, IsTied, marked_view, told_view};
+ghost use Rattle.ready_queue.specs.Queues as queues;
+ghost use Rattle.dispatcher.specs.SharedRuns.{IsSharedRun};
+ghost use Rattle.dispatcher.specs.Telling.{HasEndedAs, HasTold, HasToldAll, HasToldNone, IsTied, KeepsPushes, marked_view, told_view};
 
-use crate::course::Course;
+use crate::shared_run::SharedRun;
 use block_store::Seat;
 use ready_queue::Pass;
 use std::sync::Wait;
 
-impl Course<'_> {
+impl SharedRun<'_> {
     /// Marks step `next` to be skipped where t failed or was skipped.
     fn mark(&self, seat: &mut Seat, t: u32, next: u32, bad: bool)
-        requires course { IsCourse self.now }
+        requires shared { IsSharedRun self.now }
         requires seat { IsSeatOf self.now.board.now seat.old }
         requires edge { 0 < edge (key_of self.now.board.now) t next }
         requires ended { HasEndedAs bad t (view seat.old) }
@@ -32,7 +33,7 @@ impl Course<'_> {
     /// Tells step `next` that t has ended, first that it is to be skipped where t failed or was skipped, and pushes it where no
     /// edge into it is left.
     fn tell<R: Wait>(&self, rt: &R, seat: &mut Seat, pass: &mut Pass, t: u32, next: u32, bad: bool)
-        requires course { IsCourse self.now }
+        requires shared { IsSharedRun self.now }
         requires seat { IsSeatOf self.now.board.now seat.old }
         requires pass { IsPassOf self.now.ready.now pass.old }
         requires tied { IsTied (key_of self.now.board.now) pass.old (view seat.old) }
@@ -43,6 +44,8 @@ impl Course<'_> {
         ensures same { IsSame seat.old seat.new }
         ensures told { (left : ℕ) × (view seat.new ≡ told_view bad t next left (view seat.old)) }
         ensures pass { IsPassOf self.now.ready.now pass.new }
+        ensures pushes { KeepsPushes pass.old pass.new }
+        ensures popped { (queues.view pass.new).popped ≡ (queues.view pass.old).popped }
         ensures tied { IsTied (key_of self.now.board.now) pass.new (view seat.new) }
     {
         self.mark(seat, t, next, bad);
@@ -50,7 +53,7 @@ impl Course<'_> {
         let was_last = left == 0;
         if was_last {
             self.ready.push(rt, pass, next);
-            self.bell.notify_one();
+            self.event_count.notify_one();
         }
     }
 
@@ -63,7 +66,7 @@ impl Course<'_> {
         t: u32,
         bad: bool,
     )
-        requires course { IsCourse self.now }
+        requires shared { IsSharedRun self.now }
         requires seat { IsSeatOf self.now.board.now seat.old }
         requires step { IsStep (key_of self.now.board.now) t }
         requires pass { IsPassOf self.now.ready.now pass.old }
@@ -75,6 +78,8 @@ impl Course<'_> {
         ensures all { HasToldAll (key_of self.now.board.now) t (view seat.new) }
         ensures ended { HasEndedAs bad t (view seat.new) }
         ensures pass { IsPassOf self.now.ready.now pass.new }
+        ensures pushes { KeepsPushes pass.old pass.new }
+        ensures popped { (queues.view pass.new).popped ≡ (queues.view pass.old).popped }
         ensures tied { IsTied (key_of self.now.board.now) pass.new (view seat.new) }
     {
         let mut place = 0;

@@ -4,14 +4,14 @@ ghost use Rattle.std.specs.Prelude.{◌≡◌, IfOk};
 ghost use Rattle.block_store.specs.Seats.{key_of, IsNewSeat};
 ghost use Rattle.ready_queue.specs.declared.queue.Ready.{Ready};
 ghost use Rattle.ready_queue.specs.Queues.{IsFirstPass};
-ghost use Rattle.dispatcher.specs.Courses.{AreSizes};
+ghost use Rattle.dispatcher.specs.SharedRuns.{AreBlockSizes};
 ghost use Rattle.dispatcher.specs.Crews.{IsBoardOf};
 ghost use Rattle.dispatcher.specs.Plans.{IsPlan};
 ghost use Rattle.dispatcher.specs.Workers.{IsNewWorker};
 
-use crate::course::Size;
-use crate::desk::Desk;
+use crate::buffers::Buffers;
 use crate::plan::Plan;
+use crate::shared_run::Size;
 use block_store::{Board, Seat};
 use ready_queue::Pass;
 use schedule_core::Event;
@@ -24,7 +24,7 @@ use task_values::Failure;
 pub struct Worker {
     pub seat: Seat,
     pub pass: Pass,
-    pub desk: Desk,
+    pub buffers: Buffers,
     pub log: Vec<Option<Event>>,
     pub failed: Option<Failure>,
 }
@@ -42,18 +42,18 @@ impl Worker {
     ) -> Result<Worker, AllocError>
         requires plan { IsPlan plan.now }
         requires board { IsBoardOf plan.now board.now }
-        requires sizes { AreSizes (key_of board.now) sizes.now }
+        requires sizes { AreBlockSizes (key_of board.now) sizes.now }
         requires seat { IsNewSeat board.now seat }
         ensures same { IfOk result (λ worker. worker.seat ≡ seat) }
         ensures new { IfOk result (λ worker. (ready : Ready) → IsFirstPass ready pass
             → IsNewWorker board.now ready worker) }
     {
-        let desk = Desk::new(alloc, plan, board, sizes)?;
+        let buffers = Buffers::new(alloc, plan, board, sizes)?;
         let log = vec![in alloc; None; 2 * plan.steps.len()]?;
         Ok(Worker {
             seat,
             pass,
-            desk,
+            buffers,
             log,
             failed: None,
         })

@@ -1,17 +1,18 @@
 //! What a worker does until all steps have ended.
 
-ghost use Rattle.std.specs.Prelude.{◌≡◌, ◌<◌, ◌⊎◌, ℕ, length, slice_get, slice_set, IfNone, IfSome, Some, true};
+ghost use Rattle.std.specs.Prelude.{◌≡◌, ◌<◌, ◌⊎◌, ◌∷◌, ℕ, length, slice_get, slice_set, IfNone, IfSome, Some, true};
 ghost use Rattle.dispatcher.specs.declared.worker.Worker.{Worker};
 ghost use Rattle.block_store.specs.declared.view.Fact.TheVariants.{Began, Ended};
 ghost use Rattle.block_store.specs.Keys.{is_bad, IsOutcome, IsStep};
 ghost use Rattle.block_store.specs.Plays.{HasBegun, HasClaimed, HasPut, NotBegun, NotEnded, NotPut};
 ghost use Rattle.block_store.specs.Seats.{key_of, view, IsSameSeat};
 ghost use Rattle.block_store.specs.Views.{learned};
-ghost use Rattle.dispatcher.specs.Courses.{IsCourse};
-ghost use Rattle.dispatcher.specs.Telling.{HasEndedAs, HasHandled, HasToldNone};
-ghost use Rattle.dispatcher.specs.Workers.{IsDone, IsWorker, noted_after};
+ghost use Rattle.dispatcher.specs.SharedRuns.{IsSharedRun};
+ghost use Rattle.dispatcher.specs.Telling.{HasEndedAs, HasHandled, HasToldNone, KeepsFacts, KeepsPushes};
+ghost use Rattle.ready_queue.specs.Queues as queues;
+ghost use Rattle.dispatcher.specs.Workers.{HasSeenEnd, IsWorker, noted_after};
 
-use crate::course::Course;
+use crate::shared_run::SharedRun;
 use crate::worker::Worker;
 use block_store::StepOutcome;
 use outside_io::Gate;
@@ -38,15 +39,16 @@ fn log_event(log: &mut Vec<Option<Event>>, stamp: u64, event: Event)
     log[stamp as usize] = Some(event);
 }
 
-impl Course<'_> {
+impl SharedRun<'_> {
     /// Begins a step that this worker has claimed.
     fn begin(&self, worker: &mut Worker, t: u32)
-        requires course { IsCourse self.now }
+        requires shared { IsSharedRun self.now }
         requires worker { IsWorker self.now.board.now self.now.ready.now worker.old }
         requires claimed { HasClaimed (view worker.old.seat) t }
         requires begun { NotBegun (view worker.old.seat) t }
         ensures worker { IsWorker self.now.board.now self.now.ready.now worker.new }
         ensures same { IsSameSeat worker.old.seat worker.new.seat }
+        ensures pass { worker.new.pass ≡ worker.old.pass }
         ensures begun { (stamp : ℕ)
             × (view worker.new.seat ≡ learned (Began t stamp) (view worker.old.seat)) }
     {
@@ -56,7 +58,7 @@ impl Course<'_> {
 
     /// Ends a step that this worker has begun, with the outcome that it has in the replay of the steps.
     fn end(&self, worker: &mut Worker, t: u32, outcome: StepOutcome)
-        requires course { IsCourse self.now }
+        requires shared { IsSharedRun self.now }
         requires worker { IsWorker self.now.board.now self.now.ready.now worker.old }
         requires step { IsStep (key_of self.now.board.now) t }
         requires begun { HasBegun (view worker.old.seat) t }
@@ -65,6 +67,7 @@ impl Course<'_> {
         requires done { (is_bad outcome ≡ true) ⊎ HasPut (view worker.old.seat) t }
         ensures worker { IsWorker self.now.board.now self.now.ready.now worker.new }
         ensures same { IsSameSeat worker.old.seat worker.new.seat }
+        ensures pass { worker.new.pass ≡ worker.old.pass }
         ensures ended { (stamp : ℕ)
             × (view worker.new.seat ≡ learned (Ended t stamp outcome) (view worker.old.seat)) }
     {
@@ -75,7 +78,7 @@ impl Course<'_> {
 
     /// Begins a step that this worker has claimed, does it and ends it. Whether it failed or was skipped.
     fn carry_out<R: Wait, G: Gate>(&self, rt: &R, worker: &mut Worker, t: u32, gate: &G) -> bool
-        requires course { IsCourse self.now }
+        requires shared { IsSharedRun self.now }
         requires worker { IsWorker self.now.board.now self.now.ready.now worker.old }
         requires step { IsStep (key_of self.now.board.now) t }
         requires claimed { HasClaimed (view worker.old.seat) t }
@@ -85,18 +88,20 @@ impl Course<'_> {
         requires fresh { HasToldNone t (view worker.old.seat) }
         ensures worker { IsWorker self.now.board.now self.now.ready.now worker.new }
         ensures same { IsSameSeat worker.old.seat worker.new.seat }
+        ensures pass { worker.new.pass ≡ worker.old.pass }
+        ensures facts { KeepsFacts (view worker.old.seat) (view worker.new.seat) }
         ensures ended { HasEndedAs result t (view worker.new.seat) }
         ensures fresh { HasToldNone t (view worker.new.seat) }
     {
         self.begin(worker, t);
-        let outcome = self.do_step(rt, &mut worker.seat, &mut worker.desk, t, gate);
+        let outcome = self.do_step(rt, &mut worker.seat, &mut worker.buffers, t, gate);
         self.end(worker, t, outcome);
         is_stopped(outcome)
     }
 
     /// Notes a step that failed, where no noted one is of a lesser statement.
     fn note(&self, failed: &mut Option<Failure>, t: u32, outcome: StepOutcome)
-        requires course { IsCourse self.now }
+        requires shared { IsSharedRun self.now }
         requires step { IsStep (key_of self.now.board.now) t }
         ensures { failed.new ≡ noted_after (key_of self.now.board.now) t outcome failed.old }
     {
@@ -112,11 +117,15 @@ impl Course<'_> {
 
     /// Does a step, where this worker is the one that claims it, and tells the steps behind it.
     fn handle<R: Wait, G: Gate>(&self, rt: &R, worker: &mut Worker, t: u32, gate: &G)
-        requires course { IsCourse self.now }
+        requires shared { IsSharedRun self.now }
         requires worker { IsWorker self.now.board.now self.now.ready.now worker.old }
         requires step { IsStep (key_of self.now.board.now) t }
         ensures worker { IsWorker self.now.board.now self.now.ready.now worker.new }
         ensures same { IsSameSeat worker.old.seat worker.new.seat }
+        ensures pushes { KeepsPushes worker.old.pass worker.new.pass }
+        ensures popped { (queues.view worker.new.pass).popped
+            ≡ (queues.view worker.old.pass).popped }
+        ensures facts { KeepsFacts (view worker.old.seat) (view worker.new.seat) }
         ensures handled { HasHandled (key_of self.now.board.now) t (view worker.old.seat)
             (view worker.new.seat) }
     {
@@ -130,27 +139,35 @@ impl Course<'_> {
 
     /// Whether all steps have ended, by the clock. A worker that sees it wakes those that sleep.
     fn is_over(&self, worker: &mut Worker) -> bool
-        requires course { IsCourse self.now }
+        requires shared { IsSharedRun self.now }
         requires worker { IsWorker self.now.board.now self.now.ready.now worker.old }
         ensures worker { IsWorker self.now.board.now self.now.ready.now worker.new }
         ensures same { IsSameSeat worker.old.seat worker.new.seat }
+        ensures pass { worker.new.pass ≡ worker.old.pass }
+        ensures facts { (view worker.new.seat).facts ≡ (view worker.old.seat).facts }
         ensures over { result ≡ true
-            → IsDone self.now.board.now self.now.ready.now worker.old worker.new }
+            → HasSeenEnd self.now.board.now self.now.ready.now worker.old worker.new }
     {
         let clock = self.board.clock(&mut worker.seat);
         if clock != 2 * self.run.steps.len() as u64 {
             return false;
         }
-        self.bell.notify_all();
+        self.event_count.notify_all();
         true
     }
 
     /// Pops the number of a step, where there is one.
     fn pop<R: Wait>(&self, rt: &R, worker: &mut Worker) -> Option<u32>
-        requires course { IsCourse self.now }
+        requires shared { IsSharedRun self.now }
         requires worker { IsWorker self.now.board.now self.now.ready.now worker.old }
         ensures worker { IsWorker self.now.board.now self.now.ready.now worker.new }
         ensures same { IsSameSeat worker.old.seat worker.new.seat }
+        ensures pushes { KeepsPushes worker.old.pass worker.new.pass }
+        ensures facts { (view worker.new.seat).facts ≡ (view worker.old.seat).facts }
+        ensures popped { IfSome result (λ t. (queues.view worker.new.pass).popped
+            ≡ t ∷ (queues.view worker.old.pass).popped) }
+        ensures none { IfNone result ((queues.view worker.new.pass).popped
+            ≡ (queues.view worker.old.pass).popped) }
         ensures step { IfSome result (IsStep (key_of self.now.board.now)) }
     {
         self.ready.pop(rt, &mut worker.pass)
@@ -159,19 +176,25 @@ impl Course<'_> {
     /// The number of a step to be claimed, or none once all steps have ended. Where there is none yet, it sleeps until one is
     /// pushed or all have ended.
     fn next<R: Wait>(&self, rt: &R, worker: &mut Worker) -> Option<u32>
-        requires course { IsCourse self.now }
+        requires shared { IsSharedRun self.now }
         requires worker { IsWorker self.now.board.now self.now.ready.now worker.old }
         ensures worker { IsWorker self.now.board.now self.now.ready.now worker.new }
         ensures same { IsSameSeat worker.old.seat worker.new.seat }
+        ensures pushes { KeepsPushes worker.old.pass worker.new.pass }
+        ensures facts { (view worker.new.seat).facts ≡ (view worker.old.seat).facts }
+        ensures popped { IfSome result (λ t. (queues.view worker.new.pass).popped
+            ≡ t ∷ (queues.view worker.old.pass).popped) }
+        ensures none { IfNone result ((queues.view worker.new.pass).popped
+            ≡ (queues.view worker.old.pass).popped) }
         ensures step { IfSome result (IsStep (key_of self.now.board.now)) }
         ensures over { IfNone result
-            (IsDone self.now.board.now self.now.ready.now worker.old worker.new) }
+            (HasSeenEnd self.now.board.now self.now.ready.now worker.old worker.new) }
     {
         for _ in rt.forever() {
             if let Some(t) = self.pop(rt, worker) {
                 return Some(t);
             }
-            let call = self.bell.prepare_wait();
+            let call = self.event_count.prepare_wait();
             if let Some(t) = self.pop(rt, worker) {
                 return Some(t);
             }
@@ -185,9 +208,9 @@ impl Course<'_> {
 
     /// Takes steps until all have ended.
     fn work<R: Wait, G: Gate>(&self, rt: &R, worker: &mut Worker, gate: &G)
-        requires course { IsCourse self.now }
+        requires shared { IsSharedRun self.now }
         requires worker { IsWorker self.now.board.now self.now.ready.now worker.old }
-        ensures { IsDone self.now.board.now self.now.ready.now worker.old worker.new }
+        ensures { HasSeenEnd self.now.board.now self.now.ready.now worker.old worker.new }
     {
         for _ in rt.forever() {
             match self.next(rt, worker) {
@@ -205,11 +228,11 @@ impl Course<'_> {
         workers: &mut [Worker],
         gate: &G,
     )
-        requires course { IsCourse self.now }
+        requires shared { IsSharedRun self.now }
         requires workers { (k : ℕ) (w : Worker) → slice_get workers.old k ≡ Some w
             → IsWorker self.now.board.now self.now.ready.now w }
         ensures done { (k : ℕ) (w v : Worker) → slice_get workers.old k ≡ Some w
-            → slice_get workers.new k ≡ Some v → IsDone self.now.board.now self.now.ready.now w v }
+            → slice_get workers.new k ≡ Some v → HasSeenEnd self.now.board.now self.now.ready.now w v }
         ensures many { length workers.new ≡ length workers.old }
     {
         let count = workers.len().max(1);
@@ -218,9 +241,9 @@ impl Course<'_> {
             workers,
             count,
             &|_, worker: &mut Worker|
-                requires course { IsCourse self.now }
+                requires shared { IsSharedRun self.now }
                 requires worker { IsWorker self.now.board.now self.now.ready.now worker.now }
-                ensures { IsDone self.entry.now.board.now self.entry.now.ready.now
+                ensures { HasSeenEnd self.entry.now.board.now self.entry.now.ready.now
                     worker.entry.now worker.exit.now }
             { self.work(rt, worker, gate) },
         );

@@ -3,7 +3,7 @@ use Rattle.std.proofs.Common.{◌≡◌, ◌≢◌, ℕ, zero, suc, ◌+◌, ◌
 use Rattle.std.proofs.lemmas.Bool.Decides.{nat_tests}
 use Rattle.residue_sums.specs.Sums.{sum_below}
 use Rattle.residue_sums.proofs.Sums.{sum_below-add, sum_below-le, sum_below-only, sum_below-zero}
-use Rattle.ready_queue.specs.Hands.{same, times, IsStepNumber}
+use Rattle.ready_queue.specs.PassViews.{same, times, IsStepNumber}
 
 pub same-eq : (a b : ℕ) → a ≡ b → same a b ≡ 1
 unfolding same

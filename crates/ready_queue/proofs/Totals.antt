@@ -4,8 +4,8 @@ use Rattle.std.proofs.lemmas.Bool.{cases_eq}
 use Rattle.std.specs.Prelude.{All, Contains}
 use mathlib.Core.Option.{some, some-injective, some-ne-none}
 use lib.ListN.{get_elem?}
-use Rattle.ready_queue.specs.declared.hand.Hand.{Hand}
-use Rattle.ready_queue.specs.Hands.{total}
+use Rattle.ready_queue.specs.declared.pass_view.PassView.{PassView}
+use Rattle.ready_queue.specs.PassViews.{total}
 
 -- ---- elements by their place
 
@@ -27,23 +27,23 @@ contains-set (z ∷ xs) (suc i) x y at = let c = contains-set xs i x y at in (su
 
 -- ---- one view changes, or is added
 
-pub total-set : (f : Hand → ℕ) (views : List Hand) (i : ℕ) (v w : Hand) → get_elem? views i ≡ some v → total f (set views i w) + f v ≡ total f views + f w
+pub total-set : (f : PassView → ℕ) (views : List PassView) (i : ℕ) (v w : PassView) → get_elem? views i ≡ some v → total f (set views i w) + f v ≡ total f views + f w
 total-set f [] i v w at = absurd (some-ne-none v (sym at))
 total-set f (u ∷ views) zero v w at = let e : f u ≡ f v = ap f (some-injective u v at) in omega arith
 total-set f (u ∷ views) (suc i) v w at = omega (arith, total-set f views i v w at)
 
-pub total-push : (f : Hand → ℕ) (views : List Hand) (w : Hand) → total f (views ++ w ∷ []) ≡ total f views + f w
+pub total-push : (f : PassView → ℕ) (views : List PassView) (w : PassView) → total f (views ++ w ∷ []) ≡ total f views + f w
 total-push f [] w = omega arith
 total-push f (v ∷ views) w = omega (arith, total-push f views w)
 
 -- ---- terms
 
-pub total-le : (f g : Hand → ℕ) (views : List Hand) → All (λ v. f v ≤ g v) views → total f views ≤ total g views
+pub total-le : (f g : PassView → ℕ) (views : List PassView) → All (λ v. f v ≤ g v) views → total f views ≤ total g views
 total-le f g [] each = omega arith
 total-le f g (u ∷ views) each = omega (arith, each 0 u (omega arith), total-le f g views (λ k d below. each (suc k) d (omega arith)))
 
 -- the same of all views but one
-pub total-others : (f g : Hand → ℕ) (views : List Hand) (i : ℕ) (v : Hand) → All (λ u. f u ≤ g u) views → get_elem? views i ≡ some v → total f views + g v ≤ total g views + f v
+pub total-others : (f g : PassView → ℕ) (views : List PassView) (i : ℕ) (v : PassView) → All (λ u. f u ≤ g u) views → get_elem? views i ≡ some v → total f views + g v ≤ total g views + f v
 total-others f g [] i v each at = absurd (some-ne-none v (sym at))
 total-others f g (u ∷ views) zero v each at =
     let e : f u ≡ f v = ap f (some-injective u v at) in
@@ -51,18 +51,18 @@ total-others f g (u ∷ views) zero v each at =
     omega (arith, total-le f g views (λ k d below. each (suc k) d (omega arith)))
 total-others f g (u ∷ views) (suc i) v each at = omega (arith, each 0 u (omega arith), total-others f g views i v (λ k d below. each (suc k) d (omega arith)) at)
 
-pub total-scale : (n : ℕ) (f : Hand → ℕ) (views : List Hand) → total (λ v. n * f v) views ≡ n * total f views
+pub total-scale : (n : ℕ) (f : PassView → ℕ) (views : List PassView) → total (λ v. n * f v) views ≡ n * total f views
 total-scale n f [] = omega arith
 total-scale n f (v ∷ views) = omega (arith, total-scale n f views)
 
 -- each term is at most the sum
-pub total-each : (f : Hand → ℕ) (views : List Hand) → All (λ v. f v ≤ total f views) views
+pub total-each : (f : PassView → ℕ) (views : List PassView) → All (λ v. f v ≤ total f views) views
 total-each f [] k d below = absurd (omega arith)
 total-each f (u ∷ views) zero d below = omega arith
 total-each f (u ∷ views) (suc k) d below = omega (arith, total-each f views k d (omega arith))
 
 -- where the sum isn't 0, some term isn't
-pub total-some : (f : Hand → ℕ) (P : Type 0) (views : List Hand) → 0 < total f views → All (λ v. 0 < f v → P) views → P
+pub total-some : (f : PassView → ℕ) (P : Type 0) (views : List PassView) → 0 < total f views → All (λ v. 0 < f v → P) views → P
 total-some f P [] h each = absurd (omega arith)
 total-some f P (u ∷ views) h each = elim (cases_eq (f u) 0) [
   | inl e ↦ total-some f P views (omega (arith, h, e)) (λ k d below. each (suc k) d (omega arith))

@@ -1,3 +1,3 @@
-pub mod Hands
+pub mod PassViews
 pub mod Queues
 pub mod Rule

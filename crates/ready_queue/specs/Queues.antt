@@ -1,7 +1,7 @@
 -- What a clause says of a queue and its passes.
 use Rattle.std.specs.Prelude.{◌≡◌, ℕ, List, [], length, All}
 use Rattle.crossbeam_queue.specs.Passes as passes
-use Rattle.ready_queue.specs.declared.hand.Hand.{Hand}
+use Rattle.ready_queue.specs.declared.pass_view.PassView.{PassView}
 use Rattle.ready_queue.specs.declared.queue.Pass.{Pass}
 use Rattle.ready_queue.specs.declared.queue.Ready.{Ready}
 
@@ -14,7 +14,7 @@ abbrev pub callers_of : Ready → ℕ
 callers_of queue = queue.callers
 
 -- what the pass knows
-abbrev pub view : Pass → Hand
+abbrev pub view : Pass → PassView
 view pass = passes.view pass.inner
 
 -- the pass is of this queue, knows its sizes, and stands for so many callers

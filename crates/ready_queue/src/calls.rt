@@ -3,12 +3,12 @@
 ghost use Rattle.std.specs.Prelude.{◌≡◌, ◌+◌, ◌<◌, ◌≤◌, ℕ, List, [], IfOk, IfSome, IfNone};
 ghost use Rattle.crossbeam_queue.specs.Passes.{IsPassOf as IsInnerPassOf};
 ghost use Rattle.crossbeam_queue.specs.Passes.{view as inner_view};
-ghost use Rattle.ready_queue.specs.Hands.{after_pop, after_push, hand, kept_hand, new_hand, times, unset_hand, IsStepNumber};
+ghost use Rattle.ready_queue.specs.PassViews.{after_pop, after_push, pass_view, kept_pass_view, new_pass_view, times, unset_pass_view, IsStepNumber};
 ghost use Rattle.ready_queue.specs.Queues.{callers_of, steps_of, view, AreFirstPasses, IsNewPass, IsPassOf};
 ghost use Rattle.ready_queue.specs.Rule.{AreOfOneMoment};
 
-use crate::hand::{Hand, ReadyRule};
 use crate::moves::{Cuts, Pops, Pushes, Sets, Sizes};
+use crate::pass_view::{PassView, ReadyRule};
 use crate::queue::{Pass, Passes, Ready};
 use crossbeam_queue::RuledArrayQueue;
 use std::alloc::{AllocError, Global};
@@ -56,9 +56,9 @@ impl Ready {
         requires sizes { 0 < (view pass.old).callers }
         requires more { 1 < (view pass.old).parts }
         ensures old { IsInnerPassOf self.now.numbers pass.new.inner
-            × (view pass.new ≡ kept_hand (view pass.old)) }
+            × (view pass.new ≡ kept_pass_view (view pass.old)) }
         ensures new { IsInnerPassOf self.now.numbers result.inner
-            × (view result ≡ new_hand (view pass.old)) }
+            × (view result ≡ new_pass_view (view pass.old)) }
     {
         let inner = self.numbers.another::<Cuts>(&mut pass.inner);
         Pass { inner }
@@ -97,16 +97,16 @@ impl Ready {
 
 /// The first pass of a queue learns the sizes, and stands for all callers.
 fn set_sizes<J: Sizes>(
-    numbers: &RuledArrayQueue<u32, Hand, ReadyRule>,
-    first: &mut crossbeam_queue::Pass<u32, Hand>,
+    numbers: &RuledArrayQueue<u32, PassView, ReadyRule>,
+    first: &mut crossbeam_queue::Pass<u32, PassView>,
     steps: u32,
     callers: u32,
 )
     requires named { (steps ≡ J.steps) × (callers ≡ J.callers) }
     requires callers { 0 < callers }
-    requires first { IsInnerPassOf numbers.now first.old × (inner_view first.old ≡ unset_hand) }
+    requires first { IsInnerPassOf numbers.now first.old × (inner_view first.old ≡ unset_pass_view) }
     ensures pass { IsInnerPassOf numbers.now first.new }
-    ensures sizes { inner_view first.new ≡ hand steps callers callers }
+    ensures sizes { inner_view first.new ≡ pass_view steps callers callers }
 {
     let _ = (steps, callers);
     numbers.another::<Sets<J>>(first);

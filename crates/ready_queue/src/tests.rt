@@ -3,7 +3,7 @@ use std::alloc::AllocError;
 
 /// Two callers of a queue for five steps push three numbers, which one of them pops in their order; then there is none.
 #[test]
-#[tactic(auto, unfolding(crate::specs::Hands::same))]
+#[tactic(auto, unfolding(crate::specs::PassViews::same))]
 fn three_numbers_come_out_in_their_order(rt: HostRuntime) -> Result<(), AllocError> {
     let (ready, mut passes) = Ready::new(rt.alloc(), 5, 2)?;
     assert_eq!(rt; passes.len(), 2);

@@ -1,6 +1,6 @@
 use Rattle.std.proofs.Common.{sym, ◌∙◌, arith}
 use Rattle.std.proofs.lemmas.List.{length-set}
-use Rattle.dispatcher.proofs.Pouring.{ordered-more, some-at}
+use Rattle.dispatcher.proofs.JoinedLogs.{ordered-more, some-at}
 use Rattle.dispatcher.proofs.joining.put_in_order.Goals as goal
 
 pub unreachable-requires : goal.unreachable-requires

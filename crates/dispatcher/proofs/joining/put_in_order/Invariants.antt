@@ -1,5 +1,5 @@
 use Rattle.std.proofs.Common.{◌≡◌, length}
-use Rattle.dispatcher.proofs.Pouring.{IsOrderedTo}
+use Rattle.dispatcher.proofs.JoinedLogs.{IsOrderedTo}
 use Rattle.dispatcher.proofs.joining.put_in_order.Given as goal
 
 abbrev pub invariant-loop-at : goal.invariant-loop-at

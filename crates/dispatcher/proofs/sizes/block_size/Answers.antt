@@ -1,7 +1,7 @@
 use Rattle.std.proofs.Common.{◌≡◌, ℕ, ◌/◌, ◌%◌, refl, ap, ap₂, ◌∙◌}
 use Rattle.residue_sums.specs.Sums.{part_count, part_length}
 use Rattle.flash_blocks.proofs.Places.{part_begins_within, parts_counted}
-use Rattle.dispatcher.specs.declared.course.Size.{Size}
+use Rattle.dispatcher.specs.declared.shared_run.Size.{Size}
 use Rattle.dispatcher.proofs.ShapeLists.{in-rows}
 use Rattle.dispatcher.proofs.sizes.block_size.Goals as goal
 

@@ -5,8 +5,8 @@ use Rattle.residue_sums.specs.Sums.{part_count}
 use Rattle.residue_sums.specs.Grids.{Grid}
 use Rattle.flash_blocks.specs.Blocks.{block_of}
 use Rattle.flash_blocks.proofs.Places.{parts_counted}
-use Rattle.dispatcher.specs.declared.course.Size.{Size}
-use Rattle.dispatcher.specs.Desks.{size_of}
+use Rattle.dispatcher.specs.declared.shared_run.Size.{Size}
+use Rattle.dispatcher.specs.BufferSizes.{size_of}
 use Rattle.dispatcher.proofs.ShapeLists.{shape-pushed}
 use Rattle.dispatcher.proofs.sizes.push_blocks.Goals as goal
 

@@ -2,7 +2,7 @@ use Rattle.std.proofs.Common.{◌≡◌, ◌++◌, ◌/◌, ◌%◌, ℕ, map}
 use Rattle.std.specs.List.{range_with_len}
 use Rattle.residue_sums.specs.Sums.{part_count}
 use Rattle.flash_blocks.specs.Blocks.{block_of}
-use Rattle.dispatcher.specs.Desks.{size_of}
+use Rattle.dispatcher.specs.BufferSizes.{size_of}
 use Rattle.dispatcher.proofs.sizes.push_blocks.Given as goal
 
 abbrev pub invariant-loop-k : goal.invariant-loop-k

@@ -1,7 +1,7 @@
 use Rattle.std.proofs.Common.{◌≡◌, ◌++◌, map, drop}
 use Rattle.std.specs.List.{flat_map}
 use Rattle.job_blocks.specs.Tables.{zero_list, zero_lists}
-use Rattle.dispatcher.specs.Desks.{size_of}
+use Rattle.dispatcher.specs.BufferSizes.{size_of}
 use Rattle.dispatcher.proofs.sizes.push_lists.Given as goal
 
 abbrev pub invariant-loop-n : goal.invariant-loop-n

@@ -1,6 +1,6 @@
 use Rattle.std.proofs.Common.{◌≡◌, ◌++◌, map, drop}
 use Rattle.job_blocks.specs.Tables.{matrix_blocks}
-use Rattle.dispatcher.specs.Desks.{size_of}
+use Rattle.dispatcher.specs.BufferSizes.{size_of}
 use Rattle.dispatcher.proofs.sizes.push_matrices.Given as goal
 
 abbrev pub invariant-loop-matrix : goal.invariant-loop-matrix

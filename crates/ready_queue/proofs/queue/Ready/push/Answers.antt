@@ -1,5 +1,5 @@
 use Rattle.std.proofs.Common.{ℕ, sym, subst, arith}
-use Rattle.ready_queue.specs.Hands.{IsStepNumber}
+use Rattle.ready_queue.specs.PassViews.{IsStepNumber}
 use Rattle.ready_queue.proofs.PushesAndPops.{pushes, room}
 use Rattle.ready_queue.proofs.queue.Ready.push.Goals as goal
 
