@@ -1,0 +1,3 @@
+pub mod OwnBlocks
+pub mod StatementSettings
+pub mod StoredLeaves
