@@ -3,3 +3,4 @@ mod PlacedTexts
 mod SmallJobs
 mod WorkedPmes
 mod WorkedTexts
+mod WorkedVerdicts

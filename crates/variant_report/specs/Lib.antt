@@ -3,5 +3,5 @@ pub mod NumberLines
 pub mod PmeTexts
 pub mod ResultTexts
 pub mod SummaryTexts
-pub mod TaskTexts
 pub mod TraceTexts
+pub mod VerdictTexts

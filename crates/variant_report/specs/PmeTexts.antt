@@ -13,9 +13,9 @@ use Rattle.block_expr.specs.Places.{work_places}
 use Rattle.block_expr.specs.Texts.{place_text, tree_text}
 use Rattle.pme_builder.specs.declared.pme.Pair.{Pair}
 use Rattle.pme_builder.specs.Pmes.{block_trees, edges_of}
-use Rattle.variant_report.specs.FamilyTexts.{dim_name}
+use Rattle.task_texts.specs.DimTexts.{dim_name}
 use Rattle.variant_report.specs.NumberLines.{number_line}
-use Rattle.variant_report.specs.TaskTexts.{task_text}
+use Rattle.task_texts.specs.TaskTexts.{task_text}
 
 -- ---- the first line
 

@@ -6,7 +6,7 @@ use Rattle.step_replays.specs.declared.step.Step.{Step}
 use Rattle.schedule_core.specs.declared.event.Event.{Event}
 use Rattle.schedule_core.specs.declared.event.Event.TheVariants.{Start, Finish}
 use Rattle.variant_report.specs.NumberLines.{number_line}
-use Rattle.variant_report.specs.TaskTexts.{task_text}
+use Rattle.task_texts.specs.TaskTexts.{task_text}
 
 -- the number of the step, that of its statement, and its task
 abbrev pub step_line : ℕ → Step → List ℕ

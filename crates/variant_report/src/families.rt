@@ -1,63 +1,11 @@
 ghost use Rattle.std.specs.Prelude.{◌≡◌, ◌++◌, ◌<◌, ℕ, length, OnOk, OnErr, Option};
-ghost use Rattle.variant_report.specs.FamilyTexts.{dir_text, dim_name, dim_text, second_text, split_text, variant_line, variant_lines, family_text};
+ghost use Rattle.variant_report.specs.FamilyTexts.{variant_line, variant_lines, family_text};
 
-use crate::tasks::put_tasks;
 use byte_texts::put_decimal;
 use invariant_family::Variant;
-use operation_spec::{Dir, Dirs, Operation, Split};
+use operation_spec::Operation;
 use std::alloc::{AllocError, Global};
-
-fn put_dir(dir: Dir, out: &mut Vec<u8>) -> Result<(), AllocError>
-    ensures { OnOk result (out.new.items ≡ out.old.items ++ dir_text dir) }
-{
-    match dir {
-        Dir::Forward => Ok(out.extend_from_slice(b"forward")?),
-        Dir::Backward => Ok(out.extend_from_slice(b"backward")?),
-    }
-}
-
-/// The name of a dimension.
-pub(crate) fn name_of(op: &Operation, d: u32) -> &[u8]
-    ensures { result.now ≡ dim_name op.now d }
-{
-    match op.dims.get(d as usize) {
-        Some(name) => name.as_slice(),
-        None => &[],
-    }
-}
-
-/// Appends a dimension's name and its direction, behind a space.
-fn put_dim(op: &Operation, d: u32, dir: Dir, out: &mut Vec<u8>) -> Result<(), AllocError>
-    ensures { OnOk result (out.new.items ≡ out.old.items ++ dim_text op.now d dir) }
-{
-    out.push(b' ')?;
-    out.extend_from_slice(name_of(op, d))?;
-    out.push(b' ')?;
-    put_dir(dir, out)?;
-    Ok(())
-}
-
-fn put_second(
-    op: &Operation,
-    second: Option<u32>,
-    dir: Dir,
-    out: &mut Vec<u8>,
-) -> Result<(), AllocError>
-    ensures { OnOk result (out.new.items ≡ out.old.items ++ second_text op.now second dir) }
-{
-    match second {
-        Some(d) => Ok(put_dim(op, d, dir, out)?),
-        None => Ok(()),
-    }
-}
-
-fn put_split(op: &Operation, split: Split, dirs: Dirs, out: &mut Vec<u8>) -> Result<(), AllocError>
-    ensures { OnOk result (out.new.items ≡ out.old.items ++ split_text op.now split dirs) }
-{
-    put_dim(op, split.first, dirs.first, out)?;
-    put_second(op, split.second, dirs.second, out)?;
-    Ok(())
-}
+use task_texts::{put_split, put_tasks};
 
 fn put_variant(op: &Operation, variant: &Variant, out: &mut Vec<u8>) -> Result<(), AllocError>
     ensures { OnOk result (out.new.items ≡ out.old.items ++ variant_line op.now variant.now) }

@@ -7,9 +7,7 @@ ghost use Rattle.variant_report.specs.PmeTexts.{block_line, block_lines, head_li
 ghost use Rattle.variant_report.specs.PmeTexts.{needs_text, numbers_text, pme_text, second_name};
 ghost use Rattle.variant_report.specs.PmeTexts.{task_line, task_lines};
 
-use crate::families::name_of;
 use crate::number_lines::put_number_line;
-use crate::tasks::{put_number, put_task};
 use block_expr::{Expr, put_place, two_parts, work_places, write_expr};
 use byte_texts::put_decimal;
 use equation::Place;
@@ -17,6 +15,7 @@ use operation_spec::{Operation, Split, Task};
 use pme_builder::{Pair, Pme};
 use std::alloc::{AllocError, Global};
 use structure_rules::NumberList;
+use task_texts::{name_of, put_number, put_task};
 
 /// Appends the text of the partitioned matrix expression that `derive_pme` answers for an operation and a split. Its
 /// one error is want of memory, and then nothing is appended: the text is composed apart from `out` first.

@@ -4,12 +4,12 @@ ghost use Rattle.std.specs.Option.{option_to_list};
 ghost use Rattle.variant_report.specs.TraceTexts.{step_line, step_lines, steps_text, word_if, kinds_text, edge_line, edges_text, event_line, schedule_text, trace_text};
 
 use crate::number_lines::put_number_line;
-use crate::tasks::{put_number, put_task};
 use byte_texts::put_decimal;
 use dependence_queue::{Edge, Edges};
 use schedule_core::{Event, EventList};
 use std::alloc::{AllocError, Global};
 use step_replays::{Step, StepList};
+use task_texts::{put_number, put_task};
 
 /// Appends the line of a step under its number.
 fn put_step(number: u64, step: &Step, out: &mut Vec<u8>) -> Result<(), AllocError>

@@ -1,5 +1,5 @@
 ghost use Rattle.std.specs.Prelude.{◌≡◌, ◌<◌, [], ◌∷◌, ◌++◌, decimal, OnOk};
-ghost use Rattle.variant_report.specs.TaskTexts.{pair_text, triple_text, task_text, tasks_text};
+ghost use Rattle.task_texts.specs.TaskTexts.{pair_text, triple_text, task_text, tasks_text};
 
 use byte_texts::put_decimal;
 use operation_spec::{Kind, Task};

@@ -1,0 +1,2 @@
+pub mod DimTexts
+pub mod TaskTexts
