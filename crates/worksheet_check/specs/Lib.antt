@@ -1,0 +1,5 @@
+pub mod Findings
+pub mod InvariantFindings
+pub mod Places
+pub mod RoundFindings
+pub mod Verdicts
