@@ -1,0 +1,5 @@
+pub mod EachLine
+pub mod ReadOperations
+pub mod SheetPlaces
+pub mod TaskSteps
+mod WorkedSheets

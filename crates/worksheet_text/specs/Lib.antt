@@ -1,0 +1,4 @@
+pub mod SheetFaults
+pub mod SheetReading
+pub mod SheetTexts
+pub mod SheetWords
