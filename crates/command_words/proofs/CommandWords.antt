@@ -1,52 +1,48 @@
 -- Words are those of a command, or of none: for each command what makes words behind its name bad, and the decision.
 use Rattle.std.proofs.Common.{◌≡◌, ◌≢◌, inl, inr, ◌⊎◌, ℕ, List, [], ◌∷◌, ◌++◌, refl, sym, subst, ap, ◌∙◌}
 use Rattle.std.specs.Prelude.{codes}
+use Rattle.std.specs.Fmt.{decimal}
 use Rattle.variant_report.specs.declared.self_words.SelfWords.{SelfWords}
 use Rattle.command_words.specs.declared.command.Command.{Command}
-use Rattle.command_words.specs.declared.command.Command.TheVariants.{Derive, Pme, Verify, Make, Run, SelfRun}
+use Rattle.command_words.specs.declared.command.Command.TheVariants.{Derive, Pme, Worksheet, Check, Verify, Make, Run, SelfRun}
 use Rattle.command_words.specs.declared.command.RunWords.{RunWords}
-use Rattle.command_words.specs.Words.{AreBad, AreMakeNumbers, ArePmeWords, AreRunWords, AreSelfWords, AreSizes, AreWordsOf, choice_words, make_words, size_words, trace_words}
+use Rattle.command_words.specs.Words.{AreBad, AreMakeNumbers, ArePmeWords, AreRunWords, AreSelfWords, AreSheetWords, AreSizes, AreWordsOf, choice_words, make_words, size_words, trace_words}
 use Rattle.command_words.proofs.PmeWords.{pme_words_or_not}
+use Rattle.command_words.proofs.SheetWords.{SheetWordsOrNone, sheet_words_or_none}
 use Rattle.command_words.proofs.RunOptions.{NoOptions, OptionsOrNone, options_or_none}
-use Rattle.command_words.proofs.WordFronts.{MakeNumbersOrNone, NoMakeNumbers, NoSizes, SizesOrNone, make_numbers_or_none, other_name, same_or_other, sizes_or_none}
+use Rattle.command_words.proofs.WordFronts.{MakeNumbersOrNone, NoMakeNumbers, NoSizes, SameOrOther, SizesOrNone, make_numbers_or_none, other_name, same_or_other, sizes_or_none}
 
 -- ---- no command
 
--- a first word that is none of the six
-bad_name : (first : List ℕ) (rest : List (List ℕ)) → first ≢ codes "derive" → first ≢ codes "pme" → first ≢ codes "verify" → first ≢ codes "make" → first ≢ codes "run"
-    → first ≢ codes "selfrun" → AreBad (first ∷ rest)
-bad_name first rest no_derive no_pme no_verify no_make no_run no_selfrun Derive named = no_derive (cc)
-bad_name first rest no_derive no_pme no_verify no_make no_run no_selfrun (Pme op dims) named = no_pme (cc)
-bad_name first rest no_derive no_pme no_verify no_make no_run no_selfrun Verify named = no_verify (cc)
-bad_name first rest no_derive no_pme no_verify no_make no_run no_selfrun (Make n m seed) named = no_make (cc)
-bad_name first rest no_derive no_pme no_verify no_make no_run no_selfrun (Run words) named = no_run (cc)
-bad_name first rest no_derive no_pme no_verify no_make no_run no_selfrun (SelfRun words) named = no_selfrun (cc)
+-- a first word that is none of theirs
+bad_name : (first : List ℕ) (rest : List (List ℕ)) → first ≢ codes "derive" → first ≢ codes "pme" → first ≢ codes "worksheet" → first ≢ codes "check"
+    → first ≢ codes "verify" → first ≢ codes "make" → first ≢ codes "run" → first ≢ codes "selfrun" → AreBad (first ∷ rest)
+bad_name first rest a b c d e f g h Derive named = a (cc)
+bad_name first rest a b c d e f g h (Pme op dims) named = b (cc)
+bad_name first rest a b c d e f g h (Worksheet op number) named = c (cc)
+bad_name first rest a b c d e f g h Check named = d (cc)
+bad_name first rest a b c d e f g h Verify named = e (cc)
+bad_name first rest a b c d e f g h (Make n m seed) named = f (cc)
+bad_name first rest a b c d e f g h (Run words) named = g (cc)
+bad_name first rest a b c d e f g h (SelfRun words) named = h (cc)
 
--- words behind `derive`, or `verify`
+-- words behind `derive`, `check` or `verify`
 bad_derive : (first : List ℕ) (rest : List (List ℕ)) → AreBad (codes "derive" ∷ first ∷ rest)
 bad_derive first rest Derive named = absurd cc
-bad_derive first rest (Pme op dims) named = absurd (other_name (codes "derive") (codes "pme") refl named.1)
-bad_derive first rest Verify named = absurd (other_name (codes "derive") (codes "verify") refl named.1)
-bad_derive first rest (Make n m seed) named = absurd (other_name (codes "derive") (codes "make") refl named.1)
-bad_derive first rest (Run words) named = absurd (other_name (codes "derive") (codes "run") refl named.1)
-bad_derive first rest (SelfRun words) named = absurd (other_name (codes "derive") (codes "selfrun") refl named.1)
+bad_derive first rest _ named = absurd (other_name named.1 refl)
+
+bad_check : (first : List ℕ) (rest : List (List ℕ)) → AreBad (codes "check" ∷ first ∷ rest)
+bad_check first rest Check named = absurd cc
+bad_check first rest _ named = absurd (other_name named.1 refl)
 
 bad_verify : (first : List ℕ) (rest : List (List ℕ)) → AreBad (codes "verify" ∷ first ∷ rest)
-bad_verify first rest Derive named = absurd (other_name (codes "verify") (codes "derive") refl named.1)
-bad_verify first rest (Pme op dims) named = absurd (other_name (codes "verify") (codes "pme") refl named.1)
 bad_verify first rest Verify named = absurd cc
-bad_verify first rest (Make n m seed) named = absurd (other_name (codes "verify") (codes "make") refl named.1)
-bad_verify first rest (Run words) named = absurd (other_name (codes "verify") (codes "run") refl named.1)
-bad_verify first rest (SelfRun words) named = absurd (other_name (codes "verify") (codes "selfrun") refl named.1)
+bad_verify first rest _ named = absurd (other_name named.1 refl)
 
 -- words behind `pme` that are no names of an operation and its dimensions
 pub bad_pme : (rest : List (List ℕ)) → ((op : List ℕ) (dims : List (List ℕ)) → ArePmeWords op dims → rest ≢ op ∷ dims) → AreBad (codes "pme" ∷ rest)
-bad_pme rest none Derive named = absurd (other_name (codes "pme") (codes "derive") refl named.1)
 bad_pme rest none (Pme op dims) named = none op dims named.0 (cc)
-bad_pme rest none Verify named = absurd (other_name (codes "pme") (codes "verify") refl named.1)
-bad_pme rest none (Make n m seed) named = absurd (other_name (codes "pme") (codes "make") refl named.1)
-bad_pme rest none (Run words) named = absurd (other_name (codes "pme") (codes "run") refl named.1)
-bad_pme rest none (SelfRun words) named = absurd (other_name (codes "pme") (codes "selfrun") refl named.1)
+bad_pme rest none _ named = absurd (other_name named.1 refl)
 
 -- no words, and words of which the first and the others are no such names
 pub bad_pme_none : AreBad (codes "pme" ∷ [])
@@ -59,34 +55,28 @@ bad_pme_names op dims none = bad_pme (op ∷ dims) (λ op' dims' are named.
     pair_of : (a b : List ℕ) (xs ys : List (List ℕ)) → a ∷ xs ≡ b ∷ ys → ◌≡◌ {A = List ℕ × List (List ℕ)} (a, xs) (b, ys)
     pair_of a b xs ys e = cc
 
+-- words behind `worksheet` that are no name of an operation and number of a variant
+pub bad_worksheet : (rest : List (List ℕ)) → ((op : List ℕ) (number : ℕ) → AreSheetWords op number → rest ≢ op ∷ decimal number ∷ [])
+    → AreBad (codes "worksheet" ∷ rest)
+bad_worksheet rest none (Worksheet op number) named = none op number named.0 (cc)
+bad_worksheet rest none _ named = absurd (other_name named.1 refl)
+
 -- words behind `make` that are no numbers of a job alone
 pub bad_make : (rest : List (List ℕ)) → ((n m seed : ℕ) → AreMakeNumbers n m seed → rest ≢ make_words n m seed) → AreBad (codes "make" ∷ rest)
-bad_make rest none Derive named = absurd (other_name (codes "make") (codes "derive") refl named.1)
-bad_make rest none (Pme op dims) named = absurd (other_name (codes "make") (codes "pme") refl named.1)
-bad_make rest none Verify named = absurd (other_name (codes "make") (codes "verify") refl named.1)
 bad_make rest none (Make n m seed) named = none n m seed named.0 (cc)
-bad_make rest none (Run words) named = absurd (other_name (codes "make") (codes "run") refl named.1)
-bad_make rest none (SelfRun words) named = absurd (other_name (codes "make") (codes "selfrun") refl named.1)
+bad_make rest none _ named = absurd (other_name named.1 refl)
 
 -- words behind `run` that are no sizes and options
 pub bad_run : (rest : List (List ℕ)) → ((words : RunWords) → AreRunWords words
     → rest ≢ size_words words.block words.workers ++ (choice_words words.choice ++ trace_words words.trace)) → AreBad (codes "run" ∷ rest)
-bad_run rest none Derive named = absurd (other_name (codes "run") (codes "derive") refl named.1)
-bad_run rest none (Pme op dims) named = absurd (other_name (codes "run") (codes "pme") refl named.1)
-bad_run rest none Verify named = absurd (other_name (codes "run") (codes "verify") refl named.1)
-bad_run rest none (Make n m seed) named = absurd (other_name (codes "run") (codes "make") refl named.1)
 bad_run rest none (Run words) named = none words named.0 (cc)
-bad_run rest none (SelfRun words) named = absurd (other_name (codes "run") (codes "selfrun") refl named.1)
+bad_run rest none _ named = absurd (other_name named.1 refl)
 
 -- words behind `selfrun` that are no numbers of a job and sizes alone
 pub bad_selfrun : (rest : List (List ℕ)) → ((words : SelfWords) → AreSelfWords words
     → rest ≢ make_words words.n words.m words.seed ++ size_words words.block words.workers) → AreBad (codes "selfrun" ∷ rest)
-bad_selfrun rest none Derive named = absurd (other_name (codes "selfrun") (codes "derive") refl named.1)
-bad_selfrun rest none (Pme op dims) named = absurd (other_name (codes "selfrun") (codes "pme") refl named.1)
-bad_selfrun rest none Verify named = absurd (other_name (codes "selfrun") (codes "verify") refl named.1)
-bad_selfrun rest none (Make n m seed) named = absurd (other_name (codes "selfrun") (codes "make") refl named.1)
-bad_selfrun rest none (Run words) named = absurd (other_name (codes "selfrun") (codes "run") refl named.1)
 bad_selfrun rest none (SelfRun words) named = none words named.0 (cc)
+bad_selfrun rest none _ named = absurd (other_name named.1 refl)
 
 -- words behind `make`, `run` and `selfrun` that don't begin by the numbers that are due
 pub bad_make_numbers : (rest : List (List ℕ)) → NoMakeNumbers rest → AreBad (codes "make" ∷ rest)
@@ -135,6 +125,17 @@ pme_or_bad (op ∷ dims) = go (pme_words_or_not op dims)
     go : ArePmeWords op dims ⊎ ¬ (ArePmeWords op dims) → BadOrNamed (codes "pme" ∷ op ∷ dims)
     go (inl are) = inr (Pme op dims, (are, refl))
     go (inr none) = inl (bad_pme_names op dims none)
+
+worksheet_or_bad : (rest : List (List ℕ)) → BadOrNamed (codes "worksheet" ∷ rest)
+worksheet_or_bad rest = go (sheet_words_or_none rest)
+  where
+    go : SheetWordsOrNone rest → BadOrNamed (codes "worksheet" ∷ rest)
+    go (inl (op, number, are, is)) = inr (Worksheet op number, (are, ap (λ (l : List (List ℕ)). codes "worksheet" ∷ l) is))
+    go (inr none) = inl (bad_worksheet rest none)
+
+check_or_bad : (rest : List (List ℕ)) → BadOrNamed (codes "check" ∷ rest)
+check_or_bad [] = inr (Check, (tt, refl))
+check_or_bad (first ∷ rest) = inl (bad_check first rest)
 
 verify_or_bad : (rest : List (List ℕ)) → BadOrNamed (codes "verify" ∷ rest)
 verify_or_bad [] = inr (Verify, (tt, refl))
@@ -197,23 +198,21 @@ bad_or_named [] = inl bad_none
   where
     bad_none : AreBad []
     bad_none Derive named = absurd cc
-    bad_none (Pme op dims) named = absurd cc
-    bad_none Verify named = absurd cc
-    bad_none (Make n m seed) named = absurd cc
-    bad_none (Run words) named = absurd cc
-    bad_none (SelfRun words) named = absurd cc
+    bad_none _ named = absurd cc
 bad_or_named (first ∷ rest) =
-    go (same_or_other first (codes "derive")) (same_or_other first (codes "pme")) (same_or_other first (codes "verify"))
-    (same_or_other first (codes "make")) (same_or_other first (codes "run")) (same_or_other first (codes "selfrun"))
+    go (same_or_other first (codes "derive")) (same_or_other first (codes "pme")) (same_or_other first (codes "worksheet"))
+    (same_or_other first (codes "check")) (same_or_other first (codes "verify")) (same_or_other first (codes "make"))
+    (same_or_other first (codes "run")) (same_or_other first (codes "selfrun"))
   where
-    go : (first ≡ codes "derive") ⊎ (first ≢ codes "derive") → (first ≡ codes "pme") ⊎ (first ≢ codes "pme")
-        → (first ≡ codes "verify") ⊎ (first ≢ codes "verify") → (first ≡ codes "make") ⊎ (first ≢ codes "make")
-        → (first ≡ codes "run") ⊎ (first ≢ codes "run") → (first ≡ codes "selfrun") ⊎ (first ≢ codes "selfrun")
-        → BadOrNamed (first ∷ rest)
-    go (inl a) b c d e f = begun_by (codes "derive") first rest a (derive_or_bad rest)
-    go (inr a) (inl b) c d e f = begun_by (codes "pme") first rest b (pme_or_bad rest)
-    go (inr a) (inr b) (inl c) d e f = begun_by (codes "verify") first rest c (verify_or_bad rest)
-    go (inr a) (inr b) (inr c) (inl d) e f = begun_by (codes "make") first rest d (make_or_bad rest)
-    go (inr a) (inr b) (inr c) (inr d) (inl e) f = begun_by (codes "run") first rest e (run_or_bad rest)
-    go (inr a) (inr b) (inr c) (inr d) (inr e) (inl f) = begun_by (codes "selfrun") first rest f (selfrun_or_bad rest)
-    go (inr a) (inr b) (inr c) (inr d) (inr e) (inr f) = inl (bad_name first rest a b c d e f)
+    go : SameOrOther first (codes "derive") → SameOrOther first (codes "pme") → SameOrOther first (codes "worksheet")
+        → SameOrOther first (codes "check") → SameOrOther first (codes "verify") → SameOrOther first (codes "make")
+        → SameOrOther first (codes "run") → SameOrOther first (codes "selfrun") → BadOrNamed (first ∷ rest)
+    go (inl a) b c d e f g h = begun_by (codes "derive") first rest a (derive_or_bad rest)
+    go (inr a) (inl b) c d e f g h = begun_by (codes "pme") first rest b (pme_or_bad rest)
+    go (inr a) (inr b) (inl c) d e f g h = begun_by (codes "worksheet") first rest c (worksheet_or_bad rest)
+    go (inr a) (inr b) (inr c) (inl d) e f g h = begun_by (codes "check") first rest d (check_or_bad rest)
+    go (inr a) (inr b) (inr c) (inr d) (inl e) f g h = begun_by (codes "verify") first rest e (verify_or_bad rest)
+    go (inr a) (inr b) (inr c) (inr d) (inr e) (inl f) g h = begun_by (codes "make") first rest f (make_or_bad rest)
+    go (inr a) (inr b) (inr c) (inr d) (inr e) (inr f) (inl g) h = begun_by (codes "run") first rest g (run_or_bad rest)
+    go (inr a) (inr b) (inr c) (inr d) (inr e) (inr f) (inr g) (inl h) = begun_by (codes "selfrun") first rest h (selfrun_or_bad rest)
+    go (inr a) (inr b) (inr c) (inr d) (inr e) (inr f) (inr g) (inr h) = inl (bad_name first rest a b c d e f g h)

@@ -5,9 +5,9 @@ use Rattle.std.specs.Fmt.{decimal}
 use Rattle.std.proofs.lemmas.Fmt.{decimal_injective}
 use Rattle.variant_report.specs.declared.self_words.SelfWords.{SelfWords}
 use Rattle.command_words.specs.declared.command.Command.{Command}
-use Rattle.command_words.specs.declared.command.Command.TheVariants.{Derive, Pme, Verify, Make, Run, SelfRun}
+use Rattle.command_words.specs.declared.command.Command.TheVariants.{Derive, Pme, Worksheet, Check, Verify, Make, Run, SelfRun}
 use Rattle.command_words.specs.declared.command.RunWords.{RunWords}
-use Rattle.command_words.specs.Words.{AreMakeNumbers, AreRunWords, AreSelfWords, AreSizes, AreWordsOf, choice_words, make_words, size_words, trace_words, words_of}
+use Rattle.command_words.specs.Words.{AreMakeNumbers, AreRunWords, AreSelfWords, AreSheetWords, AreSizes, AreWordsOf, choice_words, make_words, size_words, trace_words, words_of}
 use Rattle.command_words.proofs.RunOptions.{same_options}
 use Rattle.command_words.proofs.WordFronts.{other_name}
 
@@ -52,48 +52,32 @@ same_self_words a b are also e =
 same_names : (op op' : List ℕ) (dims dims' : List (List ℕ)) → codes "pme" ∷ op ∷ dims ≡ codes "pme" ∷ op' ∷ dims' → (op ≡ op') × (dims ≡ dims')
 same_names op op' dims dims' e = (cc, cc)
 
+same_sheet : (op op' : List ℕ) (n n' : ℕ) → AreSheetWords op n → AreSheetWords op' n' → codes "worksheet" ∷ op ∷ decimal n ∷ [] ≡ codes "worksheet" ∷ op' ∷ decimal n' ∷ []
+    → (op ≡ op') × (n ≡ n')
+same_sheet op op' n n' are also e = (cc, same_number n n' are.number_high also.number_high (cc))
+
 -- ---- commands
 
 -- commands in range that are spelled the same
 same_spelling : (a b : Command) → AreWordsOf (words_of a) b → AreWordsOf (words_of a) a → a ≡ b
 same_spelling Derive Derive named self = refl
+same_spelling Derive _ named self = absurd (other_name named.1 refl)
 same_spelling (Pme op dims) (Pme op' dims') named self = let same = same_names op op' dims dims' named.1 in λ i. Pme (same.0 i) (same.1 i)
+same_spelling (Pme op dims) _ named self = absurd (other_name named.1 refl)
+same_spelling (Worksheet op n) (Worksheet op' n') named self = let same = same_sheet op op' n n' self.0 named.0 named.1 in λ i. Worksheet (same.0 i) (same.1 i)
+same_spelling (Worksheet op n) _ named self = absurd (other_name named.1 refl)
+same_spelling Check Check named self = refl
+same_spelling Check _ named self = absurd (other_name named.1 refl)
 same_spelling Verify Verify named self = refl
+same_spelling Verify _ named self = absurd (other_name named.1 refl)
 same_spelling (Make n m seed) (Make n' m' seed') named self =
     let same = same_make_numbers n m seed n' m' seed' [] [] self.0 named.0 (cc) in
     λ i. Make (same.0 i) (same.1 i) (same.2 i)
+same_spelling (Make n m seed) _ named self = absurd (other_name named.1 refl)
 same_spelling (Run words) (Run others) named self = ap (λ (w : RunWords). Run w) (same_run_words words others self.0 named.0 (cc))
+same_spelling (Run words) _ named self = absurd (other_name named.1 refl)
 same_spelling (SelfRun words) (SelfRun others) named self = ap (λ (w : SelfWords). SelfRun w) (same_self_words words others self.0 named.0 (cc))
-same_spelling Derive (Pme op dims) named self = absurd (other_name (codes "derive") (codes "pme") refl named.1)
-same_spelling Derive Verify named self = absurd (other_name (codes "derive") (codes "verify") refl named.1)
-same_spelling Derive (Make n m seed) named self = absurd (other_name (codes "derive") (codes "make") refl named.1)
-same_spelling Derive (Run words) named self = absurd (other_name (codes "derive") (codes "run") refl named.1)
-same_spelling Derive (SelfRun words) named self = absurd (other_name (codes "derive") (codes "selfrun") refl named.1)
-same_spelling (Pme op dims) Derive named self = absurd (other_name (codes "pme") (codes "derive") refl named.1)
-same_spelling (Pme op dims) Verify named self = absurd (other_name (codes "pme") (codes "verify") refl named.1)
-same_spelling (Pme op dims) (Make n m seed) named self = absurd (other_name (codes "pme") (codes "make") refl named.1)
-same_spelling (Pme op dims) (Run words) named self = absurd (other_name (codes "pme") (codes "run") refl named.1)
-same_spelling (Pme op dims) (SelfRun words) named self = absurd (other_name (codes "pme") (codes "selfrun") refl named.1)
-same_spelling Verify Derive named self = absurd (other_name (codes "verify") (codes "derive") refl named.1)
-same_spelling Verify (Pme op dims) named self = absurd (other_name (codes "verify") (codes "pme") refl named.1)
-same_spelling Verify (Make n m seed) named self = absurd (other_name (codes "verify") (codes "make") refl named.1)
-same_spelling Verify (Run words) named self = absurd (other_name (codes "verify") (codes "run") refl named.1)
-same_spelling Verify (SelfRun words) named self = absurd (other_name (codes "verify") (codes "selfrun") refl named.1)
-same_spelling (Make n m seed) Derive named self = absurd (other_name (codes "make") (codes "derive") refl named.1)
-same_spelling (Make n m seed) (Pme op dims) named self = absurd (other_name (codes "make") (codes "pme") refl named.1)
-same_spelling (Make n m seed) Verify named self = absurd (other_name (codes "make") (codes "verify") refl named.1)
-same_spelling (Make n m seed) (Run words) named self = absurd (other_name (codes "make") (codes "run") refl named.1)
-same_spelling (Make n m seed) (SelfRun words) named self = absurd (other_name (codes "make") (codes "selfrun") refl named.1)
-same_spelling (Run words) Derive named self = absurd (other_name (codes "run") (codes "derive") refl named.1)
-same_spelling (Run words) (Pme op dims) named self = absurd (other_name (codes "run") (codes "pme") refl named.1)
-same_spelling (Run words) Verify named self = absurd (other_name (codes "run") (codes "verify") refl named.1)
-same_spelling (Run words) (Make n m seed) named self = absurd (other_name (codes "run") (codes "make") refl named.1)
-same_spelling (Run words) (SelfRun others) named self = absurd (other_name (codes "run") (codes "selfrun") refl named.1)
-same_spelling (SelfRun words) Derive named self = absurd (other_name (codes "selfrun") (codes "derive") refl named.1)
-same_spelling (SelfRun words) (Pme op dims) named self = absurd (other_name (codes "selfrun") (codes "pme") refl named.1)
-same_spelling (SelfRun words) Verify named self = absurd (other_name (codes "selfrun") (codes "verify") refl named.1)
-same_spelling (SelfRun words) (Make n m seed) named self = absurd (other_name (codes "selfrun") (codes "make") refl named.1)
-same_spelling (SelfRun words) (Run others) named self = absurd (other_name (codes "selfrun") (codes "run") refl named.1)
+same_spelling (SelfRun words) _ named self = absurd (other_name named.1 refl)
 
 pub one_command : (words : List (List ℕ)) (a b : Command) → AreWordsOf words a → AreWordsOf words b → a ≡ b
 one_command words a b first second = same_spelling a b (second.0, sym first.1 ∙ second.1) (first.0, refl)

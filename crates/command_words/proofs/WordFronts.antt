@@ -75,16 +75,19 @@ no_workers words one two three b first second third none = behind_block words on
 
 -- ---- words begin so, or not
 
-pub same_or_other : (word other : List ℕ) → (word ≡ other) ⊎ (word ≢ other)
+abbrev pub SameOrOther : List ℕ → List ℕ → Type 0
+SameOrOther word other = (word ≡ other) ⊎ (word ≢ other)
+
+pub same_or_other : (word other : List ℕ) → SameOrOther word other
 same_or_other word other = go (bytes_eq word other) refl
   where
-    go : (test : Bool) → bytes_eq word other ≡ test → (word ≡ other) ⊎ (word ≢ other)
+    go : (test : Bool) → bytes_eq word other ≡ test → SameOrOther word other
     go true e = inl ((bytes_eq-Decides word other).0 e)
     go false e = inr (not_from_Decides (bytes_eq word other) (bytes_eq-Decides word other) e)
 
 -- words that begin by different names
-pub other_name : {rest more : List (List ℕ)} (first second : List ℕ) → bytes_eq first second ≡ false → first ∷ rest ≢ second ∷ more
-other_name first second differ named = not_from_Decides (bytes_eq first second) (bytes_eq-Decides first second) differ (cc)
+pub other_name : {first second : List ℕ} {rest more : List (List ℕ)} → first ∷ rest ≡ second ∷ more → bytes_eq first second ≡ false → ⊥
+other_name {first} {second} named differ = not_from_Decides (bytes_eq first second) (bytes_eq-Decides first second) differ (cc)
 
 abbrev pub WordOrNone : List ℕ → List (List ℕ) → Type 0
 WordOrNone word words = ((rest : List (List ℕ)) × (words ≡ word ∷ rest)) ⊎ NoWord word words

@@ -3,11 +3,18 @@ use Rattle.std.proofs.Common.{◌≡◌, true, false, [], ◌∷◌, map, refl}
 use Rattle.std.specs.Prelude.{codes}
 use Rattle.std.specs.Fmt.{digits}
 use Rattle.issue_list.specs.declared.choice.Choice.TheVariants.{First, Each}
-use Rattle.command_words.specs.declared.command.Command.TheVariants.{Make, Pme, Run, SelfRun}
+use Rattle.command_words.specs.declared.command.Command.TheVariants.{Check, Make, Pme, Run, SelfRun, Worksheet}
 use Rattle.command_words.specs.Words.{may_name, words_of}
 
 expression : words_of (Pme (codes "low") (codes "n" ∷ codes "m" ∷ [])) ≡ codes "pme" ∷ codes "low" ∷ codes "n" ∷ codes "m" ∷ []
 expression = refl
+
+sheet : words_of (Worksheet (codes "lu") 5) ≡ codes "worksheet" ∷ codes "lu" ∷ codes "5" ∷ []
+unfolding digits
+sheet = refl
+
+checked : words_of Check ≡ codes "check" ∷ []
+checked = refl
 
 -- a letter, then letters, digits and _, at most 32 bytes
 names : map may_name (codes "a" ∷ codes "Z_9b" ∷ codes "abcdefghijklmnopqrstuvwxyz_45678" ∷ []) ≡ true ∷ true ∷ true ∷ []

@@ -6,7 +6,7 @@ use Rattle.issue_list.specs.declared.choice.Choice.{Choice}
 use Rattle.issue_list.specs.declared.choice.Choice.TheVariants.{First, Each}
 use Rattle.variant_report.specs.declared.self_words.SelfWords.{SelfWords}
 use Rattle.command_words.specs.declared.command.Command.{Command}
-use Rattle.command_words.specs.declared.command.Command.TheVariants.{Derive, Pme, Verify, Make, Run, SelfRun}
+use Rattle.command_words.specs.declared.command.Command.TheVariants.{Derive, Pme, Worksheet, Check, Verify, Make, Run, SelfRun}
 use Rattle.command_words.specs.declared.command.RunWords.{RunWords}
 
 -- ---- the spelling
@@ -36,6 +36,8 @@ trace_words false = []
 abbrev pub words_of : Command → List (List ℕ)
 words_of Derive = codes "derive" ∷ []
 words_of (Pme op dims) = codes "pme" ∷ op ∷ dims
+words_of (Worksheet op number) = codes "worksheet" ∷ op ∷ decimal number ∷ []
+words_of Check = codes "check" ∷ []
 words_of Verify = codes "verify" ∷ []
 words_of (Make n m seed) = codes "make" ∷ make_words n m seed
 words_of (Run words) =
@@ -57,6 +59,12 @@ pub record ArePmeWords (op : List ℕ) (dims : List (List ℕ)) : Type 0 where
   pub some_dimension : 1 ≤ length dims
   pub few_dimensions : length dims ≤ 2
   pub dimensions_named : IsTrue (list_all may_name dims)
+
+-- an operation's name, and the number of a variant
+pub record AreSheetWords (op : List ℕ) (number : ℕ) : Type 0 where
+  pub operation_named : IsTrue (may_name op)
+  pub number_low : 1 ≤ number
+  pub number_high : number < 2 ^ 32
 
 pub record AreMakeNumbers (n m seed : ℕ) : Type 0 where
   pub n_high : n ≤ 1024
@@ -96,6 +104,8 @@ pub record AreSelfWords (words : SelfWords) : Type 0 where
 abbrev pub IsInRange : Command → Type 0
 IsInRange Derive = Unit {0}
 IsInRange (Pme op dims) = ArePmeWords op dims
+IsInRange (Worksheet op number) = AreSheetWords op number
+IsInRange Check = Unit {0}
 IsInRange Verify = Unit {0}
 IsInRange (Make n m seed) = AreMakeNumbers n m seed
 IsInRange (Run words) = AreRunWords words
@@ -113,64 +123,45 @@ AreBad words = (command : Command) → AreWordsOf words command → ⊥
 
 -- ---- which command it is
 
--- the command asks for families, a partitioned matrix expression, a check of matrices, a generated job, a run, or the run of a
--- generated job
+-- the command asks for families, a partitioned matrix expression, a worksheet, a check of a worksheet, a check of matrices, a
+-- generated job, a run, or the run of a generated job
 abbrev pub AsksFamilies : Command → Type 0
 AsksFamilies Derive = Unit {0}
-AsksFamilies (Pme op dims) = ⊥
-AsksFamilies Verify = ⊥
-AsksFamilies (Make n m seed) = ⊥
-AsksFamilies (Run words) = ⊥
-AsksFamilies (SelfRun words) = ⊥
+AsksFamilies _ = ⊥
 
 abbrev pub AsksPme : Command → Type 0
-AsksPme Derive = ⊥
 AsksPme (Pme op dims) = Unit {0}
-AsksPme Verify = ⊥
-AsksPme (Make n m seed) = ⊥
-AsksPme (Run words) = ⊥
-AsksPme (SelfRun words) = ⊥
+AsksPme _ = ⊥
+
+abbrev pub AsksWorksheet : Command → Type 0
+AsksWorksheet (Worksheet op number) = Unit {0}
+AsksWorksheet _ = ⊥
+
+abbrev pub AsksCheck : Command → Type 0
+AsksCheck Check = Unit {0}
+AsksCheck _ = ⊥
 
 abbrev pub AsksVerify : Command → Type 0
-AsksVerify Derive = ⊥
-AsksVerify (Pme op dims) = ⊥
 AsksVerify Verify = Unit {0}
-AsksVerify (Make n m seed) = ⊥
-AsksVerify (Run words) = ⊥
-AsksVerify (SelfRun words) = ⊥
+AsksVerify _ = ⊥
 
 abbrev pub AsksMake : Command → Type 0
-AsksMake Derive = ⊥
-AsksMake (Pme op dims) = ⊥
-AsksMake Verify = ⊥
 AsksMake (Make n m seed) = Unit {0}
-AsksMake (Run words) = ⊥
-AsksMake (SelfRun words) = ⊥
+AsksMake _ = ⊥
 
 abbrev pub AsksRun : Command → Type 0
-AsksRun Derive = ⊥
-AsksRun (Pme op dims) = ⊥
-AsksRun Verify = ⊥
-AsksRun (Make n m seed) = ⊥
 AsksRun (Run words) = Unit {0}
-AsksRun (SelfRun words) = ⊥
+AsksRun _ = ⊥
 
 abbrev pub AsksSelfRun : Command → Type 0
-AsksSelfRun Derive = ⊥
-AsksSelfRun (Pme op dims) = ⊥
-AsksSelfRun Verify = ⊥
-AsksSelfRun (Make n m seed) = ⊥
-AsksSelfRun (Run words) = ⊥
 AsksSelfRun (SelfRun words) = Unit {0}
+AsksSelfRun _ = ⊥
 
 -- the command reads a job; one that is generated needs no input
 abbrev pub ReadsInput : Command → Type 0
-ReadsInput Derive = Unit {0}
-ReadsInput (Pme op dims) = Unit {0}
-ReadsInput Verify = Unit {0}
 ReadsInput (Make n m seed) = ⊥
-ReadsInput (Run words) = Unit {0}
 ReadsInput (SelfRun words) = ⊥
+ReadsInput _ = Unit {0}
 
 -- ---- how many workers it asks for
 

@@ -28,6 +28,10 @@ pub enum Command {
     /// `pme OP D` or `pme OP D D`: prints the partitioned matrix expression of an operation of the input's job, with two parts
     /// in each of the dimensions.
     Pme { op: Name, dims: NameList },
+    /// `worksheet OP V`: prints the worksheet of a variant, numbered from 1, of an operation of the input's job.
+    Worksheet { op: Name, number: u32 },
+    /// `check`: checks the worksheet behind the input's job.
+    Check,
     /// `verify`: checks the matrices behind the input's job.
     Verify,
     /// `make N M SEED`: prints the job that is generated for size N (0 to 1,024), modulus M (from 2 on) and a seed.
@@ -46,7 +50,12 @@ impl Command {
         match self {
             Command::Run { words } => words.workers,
             Command::SelfRun { words } => words.workers,
-            Command::Derive | Command::Pme { .. } | Command::Verify | Command::Make { .. } => 1,
+            Command::Derive
+            | Command::Pme { .. }
+            | Command::Worksheet { .. }
+            | Command::Check
+            | Command::Verify
+            | Command::Make { .. } => 1,
         }
     }
 }

@@ -16,7 +16,7 @@ fn are_name_bytes(bytes: &[u8]) -> bool
 }
 
 /// Whether a word may name something in a text: it begins with a letter, has letters, digits and `_`, and at most 32 bytes.
-fn may_name(word: &[u8]) -> bool
+pub fn may_name(word: &[u8]) -> bool
     ensures { result ≡ may_name word.now }
 {
     match word {

@@ -5,7 +5,8 @@ ghost use Rattle.command_words.specs.Words.{AreBad, AreWordsOf};
 
 use crate::command::{Command, RunWords};
 use crate::fronts::{make_numbers, size_numbers};
-use crate::names::{are_pme_words, name_of, names_of};
+use crate::names::{are_pme_words, may_name, name_of, names_of};
+use crate::numbers::number_in;
 use crate::options::options_of;
 use std::alloc::{AllocError, Global};
 use variant_report::SelfWords;
@@ -37,6 +38,37 @@ fn pme_of(alloc: Global, words: &[String]) -> Result<Option<Command>, AllocError
     let op = name_of(alloc, op.as_str())?;
     let dims = names_of(alloc, dims)?;
     Ok(Some(Command::Pme { op, dims }))
+}
+
+/// `worksheet`, and the name of an operation and the number of a variant behind it.
+fn worksheet_of(alloc: Global, words: &[String]) -> Result<Option<Command>, AllocError>
+    ensures { IfOk result (λ found. MatchOption found
+        (AreBad (codes "worksheet" ∷ map string_bytes words.now))
+        (AreWordsOf (codes "worksheet" ∷ map string_bytes words.now))) }
+{
+    let [op, number] = words else {
+        return Ok(None);
+    };
+    let Some(number) = number_in(number.as_str(), 1, u32::MAX) else {
+        return Ok(None);
+    };
+    if !may_name(op.as_bytes()) {
+        return Ok(None);
+    }
+    let op = name_of(alloc, op.as_str())?;
+    Ok(Some(Command::Worksheet { op, number }))
+}
+
+/// `check`, and nothing behind it.
+fn check_of(words: &[String]) -> Option<Command>
+    ensures { MatchOption result (AreBad (codes "check" ∷ map string_bytes words.now))
+        (AreWordsOf (codes "check" ∷ map string_bytes words.now)) }
+{
+    if words.is_empty() {
+        Some(Command::Check)
+    } else {
+        None
+    }
 }
 
 /// `verify`, and nothing behind it.
@@ -120,6 +152,10 @@ fn command_of(alloc: Global, first: &str, words: &[String]) -> Result<Option<Com
         Ok(derive_of(words))
     } else if first == "pme" {
         pme_of(alloc, words)
+    } else if first == "worksheet" {
+        worksheet_of(alloc, words)
+    } else if first == "check" {
+        Ok(check_of(words))
     } else if first == "verify" {
         Ok(verify_of(words))
     } else if first == "make" {

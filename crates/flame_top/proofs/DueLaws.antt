@@ -10,10 +10,11 @@ use Rattle.job_text.specs.SpelledJobs.{job_in}
 use Rattle.job_text.specs.JobTexts.{job_text}
 use Rattle.job_generator.specs.GeneratedJobs.{generated_job}
 use Rattle.command_words.specs.declared.command.Command.{Command}
-use Rattle.command_words.specs.declared.command.Command.TheVariants.{Derive, Make, Pme, Run, SelfRun, Verify}
+use Rattle.command_words.specs.declared.command.Command.TheVariants.{Check, Derive, Make, Pme, Run, SelfRun, Verify, Worksheet}
 use Rattle.command_words.specs.Words.{IsInRange}
 use Rattle.command_words.proofs.OneCommand.{one_command}
 use Rattle.flame_top.specs.Refusals.{refusal_text}
+use Rattle.flame_top.specs.Checks.{DueCheck}
 use Rattle.flame_top.specs.Derive.{DueFamilies, families_text}
 use Rattle.flame_top.specs.Due.{DueInput, DueCommand, Due}
 use Rattle.flame_top.specs.DueTexts.{DueShort, Says}
@@ -23,11 +24,14 @@ use Rattle.flame_top.specs.Run.{DueRun}
 use Rattle.flame_top.specs.SameTexts.{HasOneText, HasOneTextOf}
 use Rattle.flame_top.specs.SelfRun.{DueSelfRun}
 use Rattle.flame_top.specs.Verify.{DueVerify}
+use Rattle.flame_top.specs.Worksheets.{DueWorksheet}
+use Rattle.flame_top.proofs.CheckLaws.{same_check}
 use Rattle.flame_top.proofs.PmeLaws.{same_pme}
 use Rattle.flame_top.proofs.RunLaws.{SameText, same_itself, same_run}
-use Rattle.flame_top.proofs.SameDue.{AreAlike, IsDetermined, Same, alike_determined, alike_same, same_says}
+use Rattle.flame_top.proofs.SameDue.{AreAlike, IsDetermined, Same, alike_determined, alike_same, one_error, same_says}
 use Rattle.flame_top.proofs.SelfRunLaws.{same_selfrun}
 use Rattle.flame_top.proofs.VerifyLaws.{same_verify}
+use Rattle.flame_top.proofs.WorksheetLaws.{same_worksheet}
 
 -- ---- for a job
 
@@ -35,9 +39,6 @@ same_families : (job : Job) (status other : ℕ) (text different : List ℕ) →
 same_families job status other text different due due_other = same_says 0 (families_text job.operations) status other text different due due_other
 
 -- ---- for an input
-
-one_error : {A E : Type 0} (e f : E) → ◌≡◌ {A = Result A E} (Err e) (Err f) → e ≡ f
-one_error e f same = cc
 
 one_fault : (input : List ℕ) (fault other : Fault) → job_in Nothing input ≡ Err fault → job_in Nothing input ≡ Err other → fault ≡ other
 one_fault input fault other is is_other = one_error fault other (sym is ∙ is_other)
@@ -69,6 +70,9 @@ same_input Derive range input =
     alike_short (SameFor Derive) (same_itself (HasOneTextOf Derive)) DueFamilies (λ job valid. determined_for Derive (DueFamilies job) (same_families job)) input
 same_input (Pme op dims) range input = alike_short (SameFor (Pme op dims)) (same_itself (HasOneTextOf (Pme op dims))) (DuePme op dims)
     (λ job valid. determined_for (Pme op dims) (DuePme op dims job) (same_pme op dims job)) input
+same_input (Worksheet op number) range input = alike_short (SameFor (Worksheet op number)) (same_itself (HasOneTextOf (Worksheet op number))) (DueWorksheet op number)
+    (λ job valid. determined_for (Worksheet op number) (DueWorksheet op number job) (same_worksheet op number job)) input
+same_input Check range input = determined_for Check (DueCheck input) (same_check input)
 same_input Verify range input = determined_for Verify (DueVerify input) (same_verify input)
 same_input (Make n m seed) range input =
     determined_for (Make n m seed) (DueMake n m seed) (λ status other text different. same_says 0 (job_text (generated_job n m seed)) status other text different)

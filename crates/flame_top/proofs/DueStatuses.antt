@@ -6,9 +6,10 @@ use Rattle.issue_list.specs.declared.choice.Choice.{Choice}
 use Rattle.issue_list.specs.declared.choice.Choice.TheVariants.{First}
 use Rattle.variant_report.specs.declared.self_words.SelfWords.{SelfWords}
 use Rattle.command_words.specs.declared.command.Command.{Command}
-use Rattle.command_words.specs.declared.command.Command.TheVariants.{Derive, Make, Pme, Run, SelfRun, Verify}
+use Rattle.command_words.specs.declared.command.Command.TheVariants.{Check, Derive, Make, Pme, Run, SelfRun, Verify, Worksheet}
 use Rattle.command_words.specs.declared.command.RunWords.{RunWords}
 use Rattle.command_words.specs.Words.{AreBad}
+use Rattle.flame_top.specs.Checks.{DueCheck}
 use Rattle.flame_top.specs.Derive.{DueFamilies}
 use Rattle.flame_top.specs.Due.{Due, DueCommand, DueInput}
 use Rattle.flame_top.specs.DueTexts.{DueShort}
@@ -18,9 +19,13 @@ use Rattle.flame_top.specs.Run.{DueEvents, DueRun, run_text}
 use Rattle.flame_top.specs.SelfRun.{DueSelfRun, job_of, self_text}
 use Rattle.flame_top.specs.Steps.{DueBySteps}
 use Rattle.flame_top.specs.Verify.{DueVerify}
+use Rattle.flame_top.specs.Worksheets.{DueWorksheet}
 use Rattle.flame_top.specs.Answers.{IsDueStatus}
+use Rattle.flame_top.proofs.CheckLaws.{check_status}
+use Rattle.flame_top.proofs.NamedLaws.{IsZeroOrThree}
 use Rattle.flame_top.proofs.PmeLaws.{pme_status}
 use Rattle.flame_top.proofs.StepsLaws.{refused_status}
+use Rattle.flame_top.proofs.WorksheetLaws.{worksheet_status}
 
 zero_is_due : (status : ℕ) → status ≡ 0 → IsDueStatus status
 zero_is_due status is = (λ e. omega arith, λ e. omega arith, λ e. omega arith)
@@ -30,6 +35,9 @@ refusal_is_due status is = (λ e. omega arith, λ e. omega arith, λ e. omega ar
 
 bad_pivot_is_due : (status : ℕ) → status ≡ 4 → IsDueStatus status
 bad_pivot_is_due status is = (λ e. omega arith, λ e. omega arith, λ e. omega arith)
+
+wrong_is_due : (status : ℕ) → status ≡ 7 → IsDueStatus status
+wrong_is_due status is = (λ e. omega arith, λ e. omega arith, λ e. omega arith)
 
 difference_is_due : (status : ℕ) → status ≡ 8 → IsDueStatus status
 difference_is_due status is = (λ e. omega arith, λ e. omega arith, λ e. omega arith)
@@ -43,8 +51,9 @@ short_is_due due of_job input status text (inr fault) = refusal_is_due status fa
 families_are_due : (job : Job) (status : ℕ) (text : List ℕ) → DueFamilies job status text → IsDueStatus status
 families_are_due job status text families = zero_is_due status families.0
 
-pme_is_due : (op : List ℕ) (dims : List (List ℕ)) (job : Job) (status : ℕ) (text : List ℕ) → DuePme op dims job status text → IsDueStatus status
-pme_is_due op dims job status text due = elim (pme_status op dims job status text due) [
+-- what is printed or refused
+either_is_due : (due : ℕ → List ℕ → Type 0) → IsZeroOrThree due → (status : ℕ) (text : List ℕ) → due status text → IsDueStatus status
+either_is_due due status_of status text is = elim (status_of status text is) [
   | inl printed ↦ zero_is_due status printed
   | inr refused ↦ refusal_is_due status refused
 ]
@@ -66,6 +75,13 @@ selfrun_is_due : (words : SelfWords) (status : ℕ) (text : List ℕ) → DueSel
 selfrun_is_due words = by_steps_is_due words.block First (job_of words) (DueMeaning (job_of words) (self_text words (job_of words)))
     (meaning_is_due (job_of words) (self_text words (job_of words)))
 
+check_is_due : (input : List ℕ) (status : ℕ) (text : List ℕ) → DueCheck input status text → IsDueStatus status
+check_is_due input status text due = elim (check_status input status text due) [
+  | inl right ↦ zero_is_due status right
+  | inr (inl refused) ↦ refusal_is_due status refused
+  | inr (inr wrong) ↦ wrong_is_due status wrong
+]
+
 verify_is_due : (input : List ℕ) (status : ℕ) (text : List ℕ) → DueVerify input status text → IsDueStatus status
 verify_is_due input status text (inl (job, rest, spells, inl (after, spelled, inl all))) = zero_is_due status all.1
 verify_is_due input status text (inl (job, rest, spells, inl (after, spelled, inr differs))) = difference_is_due status differs.4
@@ -74,7 +90,11 @@ verify_is_due input status text (inr fault) = refusal_is_due status fault.2
 
 input_is_due : (command : Command) (input : List ℕ) (status : ℕ) (text : List ℕ) → DueInput command input status text → IsDueStatus status
 input_is_due Derive input status text due = short_is_due DueFamilies families_are_due input status text due
-input_is_due (Pme op dims) input status text due = short_is_due (DuePme op dims) (pme_is_due op dims) input status text due
+input_is_due (Pme op dims) input status text due =
+    short_is_due (DuePme op dims) (λ job. either_is_due (DuePme op dims job) (pme_status op dims job)) input status text due
+input_is_due (Worksheet op number) input status text due =
+    short_is_due (DueWorksheet op number) (λ job. either_is_due (DueWorksheet op number job) (worksheet_status op number job)) input status text due
+input_is_due Check input status text due = check_is_due input status text due
 input_is_due Verify input status text due = verify_is_due input status text due
 input_is_due (Make n m seed) input status text due = zero_is_due status due.0
 input_is_due (Run words) input status text due = short_is_due (DueRun words) (run_is_due words) input status text due

@@ -1,3 +1,4 @@
+mod CheckLaws
 mod Delivered
 mod DueLaws
 mod DueStatuses
@@ -5,6 +6,7 @@ mod EventsAlone
 mod FirstLong
 mod JoinedTexts
 mod MeaningLaws
+mod NamedLaws
 mod PmeLaws
 mod QuietStreams
 mod ReadingCommands
@@ -18,3 +20,4 @@ mod VerifyLaws
 mod WorkedNames
 mod WorkedRows
 mod WorkedRuns
+mod WorksheetLaws

@@ -1,5 +1,5 @@
 -- Two statuses and texts that are the same.
-use Rattle.std.proofs.Common.{◌≡◌, inl, inr, ◌⊎◌, ℕ, List, sym, ◌∙◌, subst}
+use Rattle.std.proofs.Common.{◌≡◌, inl, inr, ◌⊎◌, ℕ, List, Result, Err, sym, ◌∙◌, subst}
 use Rattle.flame_top.specs.DueTexts.{Says}
 
 -- one status and one text
@@ -37,3 +37,7 @@ module _ (alike : List ℕ → List ℕ → Type 0) (itself : (text : List ℕ) 
 -- some status and some text are due
 abbrev pub IsSomeDue : (ℕ → List ℕ → Type 0) → Type 0
 IsSomeDue due = (status : ℕ) × (text : List ℕ) × due status text
+
+-- a fault that a reader ends with is one
+pub one_error : {A E : Type 0} (e f : E) → ◌≡◌ {A = Result A E} (Err e) (Err f) → e ≡ f
+one_error e f same = cc

@@ -12,7 +12,7 @@ use Rattle.job_text.proofs.JobTaken.{read_job_spelled}
 use Rattle.job_text.specs.JobTexts.{job_text}
 use Rattle.job_generator.specs.GeneratedJobs.{generated_job}
 use Rattle.command_words.specs.declared.command.Command.{Command}
-use Rattle.command_words.specs.declared.command.Command.TheVariants.{Derive, Make, Pme, Run, SelfRun, Verify}
+use Rattle.command_words.specs.declared.command.Command.TheVariants.{Check, Derive, Make, Pme, Run, SelfRun, Verify, Worksheet}
 use Rattle.command_words.specs.Words.{AreBad, AreWordsOf, IsInRange, ReadsInput}
 use Rattle.command_words.proofs.CommandWords.{bad_or_named}
 use Rattle.flame_top.specs.Refusals.{refusal_text}
@@ -21,12 +21,15 @@ use Rattle.flame_top.specs.Due.{DueInput, DueCommand, Due, input_limit}
 use Rattle.flame_top.specs.DueTexts.{DueShort}
 use Rattle.flame_top.specs.Pme.{DuePme}
 use Rattle.flame_top.specs.Run.{DueRun}
+use Rattle.flame_top.specs.Worksheets.{DueWorksheet}
+use Rattle.flame_top.proofs.CheckLaws.{some_check}
 use Rattle.flame_top.proofs.PmeLaws.{some_pme}
 use Rattle.flame_top.proofs.ReadingCommands.{reads_or_not}
 use Rattle.flame_top.proofs.RunLaws.{some_run}
 use Rattle.flame_top.proofs.SameDue.{IsSomeDue}
 use Rattle.flame_top.proofs.SelfRunLaws.{some_selfrun}
 use Rattle.flame_top.proofs.VerifyLaws.{some_verify}
+use Rattle.flame_top.proofs.WorksheetLaws.{some_worksheet}
 
 -- ---- for a job
 
@@ -48,6 +51,8 @@ some_short due some_job input = go (job_in Nothing input) refl
 some_input : (command : Command) → IsInRange command → (input : List ℕ) → IsSomeDue (DueInput command input)
 some_input Derive range input = some_short DueFamilies (λ job valid. some_families job) input
 some_input (Pme op dims) range input = some_short (DuePme op dims) (λ job valid. some_pme op dims job) input
+some_input (Worksheet op number) range input = some_short (DueWorksheet op number) (λ job valid. some_worksheet op number job) input
+some_input Check range input = some_check input
 some_input Verify range input = some_verify input
 some_input (Make n m seed) range input = (0, job_text (generated_job n m seed), (refl, refl))
 some_input (Run words) range input = some_short (DueRun words) (some_run words) input

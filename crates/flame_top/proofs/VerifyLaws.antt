@@ -23,7 +23,7 @@ use Rattle.job_text.proofs.JobTaken.{read_job_spelled}
 use Rattle.job_text.proofs.OneJob.{no_fault, one_job}
 use Rattle.flame_top.specs.Refusals.{refusal_text}
 use Rattle.flame_top.specs.Verify.{before_statement, Differs, differs_text, DueAnswer, DueBehind, DueVerify, IsStatementAt, Verifies, verified_text}
-use Rattle.flame_top.proofs.SameDue.{Same}
+use Rattle.flame_top.proofs.SameDue.{Same, one_error}
 use Rattle.flame_top.proofs.VerifiedStatements.{HaveShortSizes-spelled, all_verify_or_first, statement_within}
 
 -- ---- for a job and the matrices behind it
@@ -71,9 +71,6 @@ module _ (job : Job) (after : List Grid) where
       (is.4 ∙ sym is_other.4, is.5 ∙ ap (λ (k : ℕ). differs_text (k + 1) is.1) number ∙ ap (differs_text (is_other.0 + 1)) place ∙ sym is_other.5)
 
 -- ---- for an input
-
-one_error : {A E : Type 0} (e f : E) → ◌≡◌ {A = Result A E} (Err e) (Err f) → e ≡ f
-one_error e f same = cc
 
 module _ (input : List ℕ) where
   module _ (job : Job) (rest : Rest) (spells : Spells input After job rest) where

@@ -2,7 +2,8 @@
 use Rattle.std.proofs.Common.{◌≡◌, [], ◌∷◌, refl}
 use Rattle.std.specs.Prelude.{codes, Some, None}
 use Rattle.operation_spec.proofs.WorkedOperations.{lu, low}
-use Rattle.flame_top.specs.Pme.{operation_named, split_named}
+use Rattle.worksheet_text.specs.SheetReading.{operation_named}
+use Rattle.flame_top.specs.Pme.{split_named}
 
 second_operation : operation_named (low ∷ lu ∷ []) (codes "lu") ≡ Some lu
 unfolding low lu

@@ -1,4 +1,5 @@
 pub mod Answers
+pub mod Checks
 pub mod Derive
 pub mod Due
 pub mod DueTexts
@@ -7,6 +8,7 @@ pub mod Going
 pub mod Listings
 pub mod Make
 pub mod Meaning
+pub mod NamedOperations
 pub mod Plannings
 pub mod Pme
 pub mod Refusals
@@ -15,3 +17,4 @@ pub mod SameTexts
 pub mod SelfRun
 pub mod Steps
 pub mod Verify
+pub mod Worksheets

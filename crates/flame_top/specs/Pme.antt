@@ -1,20 +1,16 @@
 -- What is due for `pme`: the partitioned matrix expression of an operation of the job along dimensions, by their names.
 use Rattle.std.specs.Prelude.{ℕ, List, [], ◌∷◌, Option, Some, None, ◌&&◌, nat_lt, if◌then◌else◌}
-use Rattle.std.specs.Str.{bytes_eq}
 use Rattle.text_scan.specs.Names.{is_among, number_of}
 use Rattle.operation_spec.specs.declared.operation.Operation.{Operation}
 use Rattle.operation_spec.specs.declared.split.Split.{Split}
 use Rattle.equation.specs.declared.job.Job.{Job}
 use Rattle.variant_report.specs.PmeTexts.{pme_text}
+use Rattle.worksheet_text.specs.SheetReading.{operation_named}
 use Rattle.flame_top.specs.DueTexts.{Says}
-use Rattle.flame_top.specs.Refusals.{no_operation_text, no_split_text}
+use Rattle.flame_top.specs.NamedOperations.{DueNamed}
+use Rattle.flame_top.specs.Refusals.{no_split_text}
 
 -- ---- what the names name
-
--- the first operation with this name
-abbrev pub operation_named : List Operation → List ℕ → Option Operation
-operation_named [] name = None
-operation_named (op ∷ operations) name = if bytes_eq op.name name then Some op else operation_named operations name
 
 -- of the dimensions with these names, a split along one of them
 abbrev pub single_named : List (List ℕ) → List ℕ → Option Split
@@ -37,11 +33,6 @@ abbrev pub DueAlong : Operation → Option Split → ℕ → List ℕ → Type 0
 DueAlong op None status text = Says 3 no_split_text status text
 DueAlong op (Some split) status text = Says 0 (pme_text op split) status text
 
--- what is due for the operation, or the refusal where there is none
-abbrev pub DueOf : Option Operation → List (List ℕ) → ℕ → List ℕ → Type 0
-DueOf None dims status text = Says 3 no_operation_text status text
-DueOf (Some op) dims status text = DueAlong op (split_named op.dims dims) status text
-
 -- for a job
 abbrev pub DuePme : List ℕ → List (List ℕ) → Job → ℕ → List ℕ → Type 0
-DuePme name dims job status text = DueOf (operation_named job.operations name) dims status text
+DuePme name dims job = DueNamed (λ op. DueAlong op (split_named op.dims dims)) (operation_named job.operations name)

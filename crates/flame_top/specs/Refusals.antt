@@ -3,6 +3,7 @@ use Rattle.std.specs.Prelude.{ℕ, List, ◌++◌, codes, decimal}
 use Rattle.text_scan.specs.FaultKinds.{FaultKind, BadByte, Header, TrailingText, Syntax, Modulus, Limit, NameTwice, NameUnknown, TooManyTerms, Shape, Form, TooLarge, RowLength, EntryRange, Binding, Alias}
 use Rattle.text_scan.specs.Faults.{Fault}
 use Rattle.equation.specs.declared.job.Place.{Place}
+use Rattle.worksheet_text.specs.SheetFaults.{SheetFault, SplitOrder, Text}
 
 -- the kind of a fault and its line
 abbrev pub kind_at : List ℕ → ℕ → List ℕ
@@ -31,12 +32,20 @@ kind_text Alias = codes "Alias"
 abbrev pub refusal_text : Fault → List ℕ
 refusal_text fault = kind_at (kind_text fault.kind) fault.line
 
--- a job without the operation that is asked for, and an operation without the split
+-- a fault of a worksheet's text
+abbrev pub sheet_refusal_text : SheetFault → List ℕ
+sheet_refusal_text (Text fault) = refusal_text fault
+sheet_refusal_text (SplitOrder line) = kind_at (codes "SplitOrder") line
+
+-- a job without the operation that is asked for, an operation without the split, and one without the variant
 abbrev pub no_operation_text : List ℕ
 no_operation_text = codes "refused NoOperation\n"
 
 abbrev pub no_split_text : List ℕ
 no_split_text = codes "refused NoSplit\n"
+
+abbrev pub no_such_variant_text : List ℕ
+no_such_variant_text = codes "refused NoVariant\n"
 
 -- numbers of variants that are not as many as the statements
 abbrev pub variant_count_text : ℕ → ℕ → List ℕ

@@ -10,6 +10,7 @@ ghost use Rattle.flame_top.specs.Going.{Goes};
 ghost use Rattle.command_words.specs.Words.{IsInRange, ReadsInput, workers_of};
 ghost use Rattle.flame_top.specs.declared.answering.Halt.TheVariants.{Memory};
 
+use crate::checks::check_output;
 use crate::derive::derive_output;
 use crate::make::make_output;
 use crate::output::Output;
@@ -17,6 +18,7 @@ use crate::pme::pme_output;
 use crate::run::run_output;
 use crate::selfrun::selfrun_output;
 use crate::verify::verify_output;
+use crate::worksheets::worksheet_output;
 use command_words::Command;
 use dispatcher::{Finished, Plan};
 use outside_io::{Failed, ReadEnd, Sink, Source, read_all, write_all};
@@ -71,6 +73,10 @@ fn input_output<F: FnOnce(&Plan<'_>) -> Result<Finished, AllocError>>(
         Command::Pme { op, dims } => {
             Ok(pme_output(alloc, bytes, op.as_slice(), dims.as_slice())?)
         }
+        Command::Worksheet { op, number } => {
+            Ok(worksheet_output(alloc, bytes, op.as_slice(), *number)?)
+        }
+        Command::Check => Ok(check_output(alloc, bytes)?),
         Command::Verify => Ok(verify_output(alloc, bytes)?),
         Command::Make { n, m, seed } => Ok(make_output(alloc, *n, *m, *seed)?),
         Command::Run { words } => Ok(run_output(alloc, bytes, words, go)?),

@@ -1,6 +1,6 @@
 //! `pme`: the partitioned matrix expression of an operation of a job.
 
-ghost use Rattle.std.specs.Prelude.{◌≡◌, ◌≢◌, ◌≤◌, ◌⊎◌, None, Some, length, IfOk, MatchOption};
+ghost use Rattle.std.specs.Prelude.{◌≡◌, ◌≢◌, ◌≤◌, ◌⊎◌, length, IfOk};
 ghost use Rattle.std.specs.Io.KnownBytes.{IsAtEnd};
 ghost use Rattle.equation.specs.Jobs.{IsJob};
 ghost use Rattle.operation_spec.specs.ValidOperations.{IsValid};
@@ -9,12 +9,11 @@ ghost use Rattle.command_words.specs.Words.{AsksPme, IsInRange};
 ghost use Rattle.flame_top.specs.Answers.{Answers, IsDueStatus, state_of};
 ghost use Rattle.flame_top.specs.Due.{DueCommand};
 ghost use Rattle.flame_top.specs.DueTexts.{DueShort, Says};
-ghost use Rattle.flame_top.specs.Pme.{DueAlong, DuePme, operation_named, pair_named};
-ghost use Rattle.flame_top.specs.Pme.{single_named, split_named};
-ghost use Rattle.flame_top.specs.Refusals.{no_operation_text, no_split_text};
+ghost use Rattle.flame_top.specs.Pme.{DueAlong, DuePme, pair_named, single_named, split_named};
+ghost use Rattle.flame_top.specs.Refusals.{no_split_text};
 
 use crate::answering::answer_command;
-use crate::output::{Output, fault_output};
+use crate::output::{Output, fault_output, no_operation_output};
 use crate::workers::go_alone;
 use command_words::Command;
 use equation::Job;
@@ -25,19 +24,7 @@ use pme_builder::derive_pme;
 use std::alloc::{AllocError, Global};
 use text_scan::{Name, is_among, number_of};
 use variant_report::write_pme;
-
-/// The first operation with this name.
-fn operation_named<'a>(operations: &'a [Operation], name: &[u8]) -> Option<&'a Operation>
-    ensures { MatchOption result (operation_named operations.now name.now ≡ None)
-        (λ op. operation_named operations.now name.now ≡ Some op.now) }
-{
-    for op in operations {
-        if op.name.as_slice() == name {
-            return Some(op);
-        }
-    }
-    None
-}
+use worksheet_text::named;
 
 /// The split along the dimension with a name.
 fn single_named(dims: &[Name], d: &[u8]) -> Option<Split>
@@ -83,15 +70,6 @@ fn split_named(dims: &[Name], names: &[Name]) -> Option<Split>
     }
 }
 
-fn no_operation_output(alloc: Global) -> Result<Output, AllocError>
-    ensures { IfOk result (λ output. Says 3 no_operation_text output.status output.text.items) }
-{
-    Ok(Output {
-        status: 3,
-        text: Vec::from_slice(alloc, b"refused NoOperation\n")?,
-    })
-}
-
 fn no_split_output(alloc: Global) -> Result<Output, AllocError>
     ensures { IfOk result (λ output. Says 3 no_split_text output.status output.text.items) }
 {
@@ -131,7 +109,7 @@ fn job_output(alloc: Global, job: &Job, name: &[u8], names: &[Name]) -> Result<O
     ensures { IfOk result (λ output.
         DuePme name.now names.now job.now output.status output.text.items) }
 {
-    match operation_named(job.operations.as_slice(), name) {
+    match named(job.operations.as_slice(), name) {
         Some(op) => Ok(operation_output(alloc, op, names)?),
         None => Ok(no_operation_output(alloc)?),
     }

@@ -8,12 +8,14 @@ ghost use Rattle.flame_top.specs.Due.{Due, DueCommand, ReadNone};
 ghost use Rattle.flame_top.specs.Answers.{Answers, IsDueStatus, state_of};
 
 use crate::answering::deliver;
+use crate::checks::check_cmd;
 use crate::derive::derive_cmd;
 use crate::make::make_cmd;
 use crate::pme::pme_cmd;
 use crate::run::{run_many_cmd, run_one_cmd};
 use crate::selfrun::{selfrun_many_cmd, selfrun_one_cmd};
 use crate::verify::verify_cmd;
+use crate::worksheets::worksheet_cmd;
 use command_words::{Command, read_words};
 use outside_io::{Gate, Sink, Source};
 use std::alloc::{AllocError, Global};
@@ -41,6 +43,8 @@ fn answer_named<R: Threads + Wait + Sync, S: Source, K: Sink, G: Gate>(
     match command {
         Command::Derive => derive_cmd(alloc, command, source, sink),
         Command::Pme { .. } => pme_cmd(alloc, command, source, sink),
+        Command::Worksheet { .. } => worksheet_cmd(alloc, command, source, sink),
+        Command::Check => check_cmd(alloc, command, source, sink),
         Command::Verify => verify_cmd(alloc, command, source, sink),
         Command::Make { .. } => make_cmd(alloc, command, source, sink),
         Command::Run { .. } => match command.workers() {
@@ -57,9 +61,9 @@ fn answer_named<R: Threads + Wait + Sync, S: Source, K: Sink, G: Gate>(
 /// Does all that the program does, and answers its status. The words are those after the program's name.
 ///
 /// - 2 comes with `bad words` where the words name no command; the source is then as it was.
-/// - Else the status is that of the command's call: `derive_cmd`, `pme_cmd`, `verify_cmd`, `make_cmd`, and with one worker `run_one_cmd` or
-///   `selfrun_one_cmd`, with several `run_many_cmd` or `selfrun_many_cmd`. That these last two return isn't promised; all others
-///   do. `make_cmd` and the calls of `selfrun` leave the source as it was.
+/// - Else the status is that of the command's call: `derive_cmd`, `pme_cmd`, `worksheet_cmd`, `check_cmd`, `verify_cmd`,
+///   `make_cmd`, and with one worker `run_one_cmd` or `selfrun_one_cmd`, with several `run_many_cmd` or `selfrun_many_cmd`.
+///   That these last two return isn't promised; all others do. `make_cmd` and the calls of `selfrun` leave the source as it was.
 pub fn top<R: Threads + Wait + Sync, S: Source, K: Sink, G: Gate>(
     rt: &R,
     alloc: Global,

@@ -2,13 +2,16 @@
 
 ghost use Rattle.std.specs.Prelude.{◌≡◌, ◌++◌, decimal, MatchOption, OnOk};
 ghost use Rattle.job_text.specs.JobFaults.{job_fault};
+ghost use Rattle.worksheet_text.specs.SheetFaults.{ws_fault};
 ghost use Rattle.flame_top.specs.Refusals.{bad_pivot_text, kind_at, no_variant_text, refusal_text};
-ghost use Rattle.flame_top.specs.Refusals.{too_many_parts_text, variant_count_text};
+ghost use Rattle.flame_top.specs.Refusals.{sheet_refusal_text, too_many_parts_text};
+ghost use Rattle.flame_top.specs.Refusals.{variant_count_text};
 
 use byte_texts::put_decimal;
 use equation::Place;
 use job_text::JobFault;
 use std::alloc::AllocError;
+use worksheet_text::WsFault;
 
 /// Appends the kind of a fault and its line.
 fn put_kind(kind: &[u8], line: u32, out: &mut Vec<u8>) -> Result<(), AllocError>
@@ -45,6 +48,19 @@ pub fn put_refusal(fault: JobFault, out: &mut Vec<u8>) -> Result<(), AllocError>
         JobFault::EntryRange { line } => Ok(put_kind(b"EntryRange", line, out)?),
         JobFault::Binding { line } => Ok(put_kind(b"Binding", line, out)?),
         JobFault::Alias { line } => Ok(put_kind(b"Alias", line, out)?),
+    }
+}
+
+/// Appends what is printed of a fault of a worksheet's text, and of want of memory nothing.
+pub fn put_sheet_refusal(fault: WsFault, out: &mut Vec<u8>) -> Result<(), AllocError>
+    ensures { OnOk result (MatchOption (ws_fault fault) (out.new.items ≡ out.old.items)
+        (λ told. out.new.items ≡ out.old.items ++ sheet_refusal_text told)) }
+{
+    match fault {
+        WsFault::Memory => Ok(()),
+        WsFault::Syntax { line } => Ok(put_kind(b"Syntax", line, out)?),
+        WsFault::NameUnknown { line } => Ok(put_kind(b"NameUnknown", line, out)?),
+        WsFault::SplitOrder { line } => Ok(put_kind(b"SplitOrder", line, out)?),
     }
 }
 

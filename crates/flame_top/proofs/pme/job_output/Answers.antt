@@ -1,8 +1,8 @@
 use Rattle.std.proofs.Common.{◌≡◌, List, subst}
 use Rattle.std.specs.Prelude.{Some}
 use Rattle.operation_spec.specs.declared.operation.Operation.{Operation}
-use Rattle.flame_top.specs.Pme.{operation_named}
-use Rattle.flame_top.proofs.PmeLaws.{valid_named}
+use Rattle.worksheet_text.specs.SheetReading.{operation_named}
+use Rattle.flame_top.proofs.NamedLaws.{valid_named}
 use Rattle.flame_top.proofs.pme.job_output.Goals as goal
 
 pub operation_output-requires : goal.operation_output-requires
