@@ -54,9 +54,9 @@ class Built:
 
 FLAGS = tuple(field.name for field in fields(Built))
 
-# What the built program has today. A command that it doesn't have yet is switched on here when it lands: worksheet, check.
+# What the built program has today. What it doesn't have yet is switched on here when it lands.
 BUILT = Built(derive_every_form=True, run_every_form=True, verify=True, block_sizes=True, variants=True, generator=True,
-              threads=True, pme=True)
+              threads=True, pme=True, worksheet=True, check=True)
 
 # Everything that the reference can answer, whether the program has it or not.
 WHOLE = Built(**{flag: True for flag in FLAGS})
