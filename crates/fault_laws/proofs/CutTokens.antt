@@ -156,7 +156,7 @@ some_bytes bytes start zero is = absurd cc
 some_bytes bytes start (suc len) is = omega arith
 
 -- those of whole lines stand above the line at their end
-own_below : (first_line : ℕ) (lines : List ℕ) (tokens : List Token) → AreWholeLines lines → tokens_of first_line lines ≡ Ok tokens → All (λ t. t.line < end_line_of first_line lines) tokens
+pub own_below : (first_line : ℕ) (lines : List ℕ) (tokens : List Token) → AreWholeLines lines → tokens_of first_line lines ≡ Ok tokens → All (λ t. t.line < end_line_of first_line lines) tokens
 own_below first_line lines tokens whole scanned k d inside =
     let are = AreTokens-scanned first_line lines tokens scanned in
     by_lines whole (get_or tokens k d) (are.within k d inside) (some_bytes lines _ _ (are.words k d inside)) (lines-scanned first_line lines tokens scanned k d inside)
@@ -186,7 +186,7 @@ with_word-front n w (line ∷ front) back all = by_test (line.number == n)
     by_test true = refl
     by_test false = refl
 
-lines_joined : (e : ℕ) (bytes : List ℕ) (own others : List Token) → All (λ t. t.line < e) own → All (λ l. e ≤ l.number) (lines_of bytes others) → lines_of bytes (own ++ others) ≡ lines_of bytes own ++ lines_of bytes others
+pub lines_joined : (e : ℕ) (bytes : List ℕ) (own others : List Token) → All (λ t. t.line < e) own → All (λ l. e ≤ l.number) (lines_of bytes others) → lines_of bytes (own ++ others) ≡ lines_of bytes own ++ lines_of bytes others
 lines_joined e bytes [] others below above = refl
 lines_joined e bytes (t ∷ own) others below above =
     let here : t.line < e = All-head (λ (s : Token). s.line < e) t own below in
@@ -200,7 +200,7 @@ word-front front more t within =
     ap (take t.len) (drop-append-le t.start front more (omega (arith, within)))
     ∙ take-append-le t.len (drop t.start front) more (omega (arith, within, length-drop t.start front))
 
-lines_of-front : (front more : List ℕ) (tokens : List Token) → All (λ t. t.start + t.len ≤ length front) tokens → lines_of (front ++ more) tokens ≡ lines_of front tokens
+pub lines_of-front : (front more : List ℕ) (tokens : List Token) → All (λ t. t.start + t.len ≤ length front) tokens → lines_of (front ++ more) tokens ≡ lines_of front tokens
 lines_of-front front more [] all = refl
 lines_of-front front more (t ∷ tokens) all =
     let P : Token → Type 0 = λ s. s.start + s.len ≤ length front in

@@ -39,7 +39,7 @@ whole_take bytes (suc k) within (inr feed) =
     inr (take k bytes, take-suc bytes k 0 (omega (arith, within)) ∙ ap (λ (b : ℕ). take k bytes ++ b ∷ []) here)
 
 -- they are all bytes, or whole lines
-whole_place : (bytes : List ℕ) (rest : Rest) → IsPlace bytes rest → (rest.at ≡ length bytes) ⊎ AreWholeLines (take rest.at bytes)
+pub whole_place : (bytes : List ℕ) (rest : Rest) → IsPlace bytes rest → (rest.at ≡ length bytes) ⊎ AreWholeLines (take rest.at bytes)
 whole_place bytes rest place = by_begins place.begins
   where
     by_begins : (rest.at ≡ length bytes) ⊎ (rest.at ≡ 0) ⊎ (get_or bytes (rest.at - 1) 0 ≡ 10) → (rest.at ≡ length bytes) ⊎ AreWholeLines (take rest.at bytes)
@@ -168,7 +168,7 @@ place-within (suc feeds) (b ∷ bytes) = by_test (b == 10) (place-within feeds b
     by_test false fewer same = omega (arith, same)
 
 -- behind feeds that stand in front
-place-front : (feeds : ℕ) (front more : List ℕ) → feeds ≤ line_feeds front → place_behind feeds (front ++ more) ≡ place_behind feeds front
+pub place-front : (feeds : ℕ) (front more : List ℕ) → feeds ≤ line_feeds front → place_behind feeds (front ++ more) ≡ place_behind feeds front
 place-front zero front more enough = refl
 place-front (suc feeds) [] more enough = absurd (omega (arith, enough))
 place-front (suc feeds) (b ∷ front) more enough = by_test (b == 10) enough (place-front feeds front more) (place-front (suc feeds) front more)

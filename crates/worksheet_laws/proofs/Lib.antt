@@ -1,0 +1,14 @@
+pub mod BehindJobs
+pub mod DimsAgain
+pub mod DimsTaken
+pub mod MadeAgain
+pub mod MadeSheets
+pub mod NamedOperations
+pub mod PrintedComments
+pub mod PrintedParts
+pub mod PrintedSheets
+pub mod RoundAgain
+pub mod SheetAgain
+pub mod SheetTaken
+pub mod TasksAgain
+pub mod TasksTaken

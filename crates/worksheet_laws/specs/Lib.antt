@@ -1,0 +1,2 @@
+pub mod SheetLines
+pub mod SpelledSheets
