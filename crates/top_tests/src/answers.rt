@@ -23,6 +23,29 @@ impl Answer {
     pub fn begins(&self, status: u8, text: &str) -> bool {
         self.status == status && self.text.starts_with(text.as_bytes())
     }
+
+    /// Whether the text has one line, and another one somewhere behind it.
+    pub fn has_in_order(&self, one: &str, other: &str) -> bool {
+        match from(self.text.as_slice(), one.as_bytes()) {
+            Some(rest) => from(rest, other.as_bytes()).is_some(),
+            None => false,
+        }
+    }
+}
+
+/// The text from where some bytes stand in it first.
+fn from<'a>(text: &'a [u8], bytes: &[u8]) -> Option<&'a [u8]> {
+    let mut rest = text;
+    for _ in 0..text.len() {
+        if rest.starts_with(bytes) {
+            return Some(rest);
+        }
+        match rest.split_first() {
+            Some((_, next)) => rest = next,
+            None => return None,
+        }
+    }
+    None
 }
 
 /// Which calls of the streams fail, by their numbers from 1.
