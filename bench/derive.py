@@ -43,6 +43,17 @@ def operation_text(name, dims, work, knowns, equation):
     return "\n".join(lines) + "\n"
 
 
+def longest_named(length):
+    """The operation with the longest expressions and worksheets, whose names have so many bytes: its name, its dimensions and its
+    block. It has as many variants as any that `search` finds."""
+    o, n, k, w, t, u, a, b, c, d = (letter * length for letter in "onkwtuabcd")
+    knowns = [f"{t} upper {n} {n}", f"{u} lower {n} {n}", f"{a} general {n} {n}", f"{b} general {n} {n}",
+              f"{c} general {k} {n}", f"{d} general {n} {k}"]
+    lines = [f"operation {o}", f"dims {n} {k}", f"work {w} general {n} {n}", *(f"known {known}" for known in knowns),
+             f"equation {t}' * X - X * {u}' = {w} - {a}' * {b}' - {c}' * {d}'", "end"]
+    return o, (n, k), "\n".join(lines) + "\n"
+
+
 def best(command, source, target, runs=40):
     """The least wall time of a command, in milliseconds, from a file to a file."""
     least = float("inf")

@@ -1,10 +1,14 @@
-"""Times `pme` on every split of ten common operations and of those with the largest families."""
+"""Times `pme` on every split of ten common operations, of those with the largest families, and of the one whose expressions are
+longest."""
 
 import itertools
 import os
 import sys
 
-from derive import HEAD, LARGEST, TEN, best, operation_text
+from derive import HEAD, LARGEST, TEN, best, longest_named, operation_text
+
+# The bytes of a name of the last one: as many as it may have, those with which its text is about half as long, and one.
+NAMES = (32, 6, 1)
 
 
 def splits(dims):
@@ -13,22 +17,24 @@ def splits(dims):
     return [(name,) for name in names] + list(itertools.combinations(names, 2))
 
 
-def measure(operation, split, program, data):
+def measure(name, split, block, program, data):
     """Prints the time of `pme` of an operation along a split, beside that of `cat` on its text."""
     job, text, copy = (os.path.join(data, "pme." + end) for end in ("flame", "out", "copy"))
     with open(job, "w") as out:
-        out.write(HEAD + operation_text(*operation))
-    name = operation[0]
+        out.write(HEAD + block)
     took = best([program, "pme", name, *split], job, text, 20)
     plain = best(["cat"], text, copy, 20)
-    print(f"pme {name} {' '.join(split)}: {os.path.getsize(text)} bytes; pme {took:.2f} ms, cat {plain:.2f} ms")
+    is_named = name != name[0] * len(name)
+    shown = " ".join((name, *split)) if is_named else f"with names of {len(name)} bytes along {len(split)} dimensions"
+    print(f"pme {shown}: {os.path.getsize(text)} bytes; pme {took:.2f} ms, cat {plain:.2f} ms")
     return took
 
 
 def main(program, data):
     """Measures all of them, and prints the slowest."""
-    slowest = max(measure(operation, split, program, data) for operation in TEN + LARGEST for split in splits(operation[1]))
-    print(f"slowest: {slowest:.2f} ms")
+    stated = [(operation[0], split, operation_text(*operation)) for operation in TEN + LARGEST for split in splits(operation[1])]
+    stated += [longest_named(length) for length in NAMES]
+    print(f"slowest: {max(measure(*one, program, data) for one in stated):.2f} ms")
 
 
 if __name__ == "__main__":

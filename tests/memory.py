@@ -73,8 +73,31 @@ end
 """
 
 
+# What is put for what in a worksheet of `lu`: a wrong place of each kind, then faults.
+CHANGES = (
+    ("solve(0,0) solve(0,1) solve(1,0)", "solve(0,1) solve(0,0)"), ("invariant solve(0,0)", "invariant"),
+    ("left(1,1,0)\nguard", "left(1,1,0) solve(1,1)\nguard"),
+    ("invariant solve(0,0) solve(0,1) solve(1,0) left(1,1,0)", "invariant"), ("guard n", "guard n n"),
+    ("start n first", "start n last"), ("take n first", "take n last"), ("before 2 2", "before 1 2"), ("update solve(2,1)\n", ""),
+    ("update left(2,2,1)\n", "update left(2,2,1)\n" * 2), ("give n first", "give n first n last"),
+    ("after 2 2 :", "after 2 2 : #"), ("worksheet lu", "worksheet qr"), ("split n", "split m"),
+    ("split n forward", "split n forward n forward"), ("guard n", "guard n ;"), ("update solve(2,1)", "update solve(2,3)"),
+    ("give n", "give"))
+
+
+def worksheet_cases():
+    """Words and an input of `worksheet` and `check`: worksheets along one dimension and along two, operations and variants that
+    aren't there, a worksheet that is right, cut, and changed in each way."""
+    for words, data in ((["lu", "5"], LU + FACTORED), (["mul", "54"], MUL + PRODUCT), (["lu", "6"], LU), (["qr", "1"], LU)):
+        yield ["worksheet", *words], data
+    right = (HERE / "cases" / "check-lu-5" / "input").read_text()
+    for data in (right, right[:-5], *(right.replace(found, put) for found, put in CHANGES)):
+        yield ["check"], data
+
+
 def cases():
     """Words and an input."""
+    yield from worksheet_cases()
     for workers in ("1", "2", "3", "16"):
         run = ["run", "--block", "1", "--workers", workers]
         yield run, MUL + PRODUCT

@@ -14,7 +14,7 @@ import os
 import sys
 from concurrent.futures import ProcessPoolExecutor
 from dataclasses import dataclass
-from functools import partial
+from functools import lru_cache, partial
 from pathlib import Path
 
 HERE = Path(__file__).resolve().parent
@@ -30,6 +30,7 @@ from generators.families import family_cases  # noqa: E402
 from generators.generated import generated_cases  # noqa: E402
 from generators.operations import FORMS  # noqa: E402
 from generators.pivots import pivot_cases  # noqa: E402
+from generators.sheet_faults import sheet_fault_cases  # noqa: E402
 from generators.sizes import size_cases  # noqa: E402
 from generators.spellings import spelling_cases  # noqa: E402
 from generators.variants import variant_cases  # noqa: E402
@@ -278,21 +279,23 @@ BLOCK_BODIES |= {f"a bad pivot of the form {form} behind the first block": mispl
                  for form in FORMS if form != "assign"}
 
 
+@lru_cache
 def chosen_cases(built, count):
     """The generated cases by their numbers, and the fixed ones of families, sizes, blocks, chains and pivots, and by what is
-    built of variants, words, the generator, expressions and worksheets, each with what is due if it is known."""
+    built of variants, words, the generator, expressions and worksheets, each with what is due if it is known; made once, before
+    the processes of the pool begin."""
     drawn = [(partial(generated_case, "1", index, built), None) for index in range(count)]
     fixed = [*family_cases(), *block_cases(), *chain_cases(), *pivot_cases(), *spelling_cases(built),
-             *pme_cases(built), *worksheet_cases(built), *check_cases(built)]
+             *pme_cases(built), *worksheet_cases(built), *check_cases(built), *sheet_fault_cases(built)]
     known = [*size_cases(), *(variant_cases(built) if built.variants else ()),
              *(generated_cases(built) if built.generator else ())]
     return drawn + [(partial(made_case, case), None) for case in fixed] + [
         (partial(made_case, case), due_for_it) for case, due_for_it in known]
 
 
-def seen(built, chosen):
+def seen(built, count, number):
     """A case as it is looked at: its name, and the bodies that it refuses."""
-    make, known = chosen
+    make, known = chosen_cases(built, count)[number]
     case = make()
     known = known() if callable(known) else known
     status, output = known or due(case.words, case.data, built)
@@ -316,9 +319,9 @@ def main():
     parser.add_argument("--whole", action="store_true")
     arguments = parser.parse_args()
     built = WHOLE if arguments.whole else BUILT
+    cases = chosen_cases(built, arguments.count)
     with ProcessPoolExecutor(len(os.sched_getaffinity(0))) as pool:
-        cases = chosen_cases(built, arguments.count)
-        found = list(pool.map(seen, [built] * len(cases), cases, chunksize=10))
+        found = list(pool.map(partial(seen, built, arguments.count), range(len(cases)), chunksize=10))
     missed = 0
     bodies = list(BODIES) + (list(FORM_BODIES) if built.run_every_form and built.verify else [])
     bodies += list(BLOCK_BODIES) if built.block_sizes else []

@@ -29,6 +29,7 @@ from generators.generated import generated_cases  # noqa: E402
 from generators.grids import grid_cases  # noqa: E402
 from generators.limits import limit_cases  # noqa: E402
 from generators.pivots import pivot_cases  # noqa: E402
+from generators.sheet_faults import sheet_fault_cases  # noqa: E402
 from generators.sizes import size_cases  # noqa: E402
 from generators.spellings import spelling_cases  # noqa: E402
 from generators.streams import stream_cases  # noqa: E402
@@ -191,7 +192,8 @@ def fixed_cases(built):
     function that makes it, or None where the reference says it; made once, before the processes of the pool begin. Great
     ones come first."""
     cases = [*limit_cases(), *block_cases(), *family_cases(), *grid_cases(built), *pivot_cases(), *chain_cases(),
-             *cut_cases(built), *spelling_cases(built), *pme_cases(built), *worksheet_cases(built), *check_cases(built)]
+             *cut_cases(built), *spelling_cases(built), *pme_cases(built), *worksheet_cases(built), *check_cases(built),
+             *sheet_fault_cases(built)]
     by_variants = list(variant_cases(built)) if built.variants else []
     made = list(generated_cases(built)) if built.generator else []
     return list(size_cases()) + by_variants + made + [(case, None) for case in cases] + list(stream_cases(built)) + list(
