@@ -15,7 +15,7 @@ use Rattle.worksheet.specs.declared.sheet.End.{End}
 use Rattle.worksheet_text.specs.SheetReading.{dir_of_word, ends_at, guard_at, split_at}
 use Rattle.worksheet_text.specs.SheetTexts.{end_text}
 use Rattle.worksheet_laws.specs.SheetLines.{along_words, ends_words, second_words}
-use Rattle.worksheet_laws.specs.SpelledSheets.{AreEnds, AreFew}
+use Rattle.worksheet_laws.specs.SpelledSheets.{AreEnds, AreOneOrTwo}
 
 -- ---- single words
 
@@ -52,7 +52,7 @@ module _ (op : Operation) (once : AllPairs (λ a b. a ≢ b) op.dims) (named : A
 
   -- ---- `guard`
 
-  pub guard_again : (n : ℕ) (guard : List ℕ) → AreFew guard → All (λ d. d < length op.dims) guard → guard_at op.dims (record { number = n; words = codes "guard" ∷ map (dim_name op) guard }) ≡ Ok guard
+  pub guard_again : (n : ℕ) (guard : List ℕ) → AreOneOrTwo guard → All (λ d. d < length op.dims) guard → guard_at op.dims (record { number = n; words = codes "guard" ∷ map (dim_name op) guard }) ≡ Ok guard
   unfolding guard_at
   guard_again n [] few all = absurd (omega (arith, few.0))
   guard_again n (a ∷ []) few all =

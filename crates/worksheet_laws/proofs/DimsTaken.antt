@@ -22,7 +22,7 @@ use Rattle.worksheet_text.specs.SheetReading.{dir_of_word, end_of_words, ends_at
 use Rattle.worksheet_text.specs.SheetTexts.{end_text}
 use Rattle.worksheet_text.specs.SheetWords.{Words}
 use Rattle.worksheet_laws.specs.SheetLines.{along_words, ends_words, second_words}
-use Rattle.worksheet_laws.specs.SpelledSheets.{AreEnds, AreFew}
+use Rattle.worksheet_laws.specs.SpelledSheets.{AreEnds, AreOneOrTwo}
 
 -- ---- the forms of lines
 
@@ -90,7 +90,7 @@ module _ (op : Operation) where
   -- ---- `guard`
 
   abbrev GuardTaken : Words → List ℕ → Type 0
-  GuardTaken words guard = (words ≡ codes "guard" ∷ map (dim_name op) guard) × AreFew guard × All (λ d. d < length op.dims) guard
+  GuardTaken words guard = (words ≡ codes "guard" ∷ map (dim_name op) guard) × AreOneOrTwo guard × All (λ d. d < length op.dims) guard
 
   guard_one : (words : Words) → begins_with (codes "guard") words ≡ true → length words ≡ 2 → not (is_among op.dims (nth_word words 1)) ≡ false → GuardTaken words (guard_of op.dims words)
   guard_one words begins long known =

@@ -1,6 +1,7 @@
 pub mod BehindJobs
 pub mod DimsAgain
 pub mod DimsTaken
+pub mod FirstFound
 pub mod MadeAgain
 pub mod MadeSheets
 pub mod NamedOperations
@@ -10,5 +11,10 @@ pub mod PrintedSheets
 pub mod RoundAgain
 pub mod SheetAgain
 pub mod SheetTaken
+pub mod ShownLines
+pub mod ShownVerdicts
 pub mod TasksAgain
 pub mod TasksTaken
+pub mod ValidPlaces
+mod WorkedTexts
+mod WorkedVerdicts

@@ -31,10 +31,11 @@ use Rattle.invariant_family.proofs.FewTasks.{AreFew-cut}
 use Rattle.invariant_family.proofs.NumberedFamilies.{variants_go_along, variants_keep_sublists}
 use Rattle.block_expr.specs.Places.{each_below, if_work_block, place_at, row_places, work_places}
 use Rattle.worksheet.specs.declared.sheet.End.{End}
+use Rattle.worksheet.specs.declared.sheet.Worksheet.{Worksheet}
 use Rattle.worksheet.specs.Ends.{end_of, split_dims, split_ends}
-use Rattle.worksheet.specs.Moments.{cut_after, cut_before, is_done, is_update, state_of}
-use Rattle.worksheet.specs.Worksheets.{worksheet_of}
-use Rattle.worksheet_laws.specs.SpelledSheets.{AreEnds, AreFew, IsPartState, IsPartTask, IsPrintable}
+use Rattle.worksheet.specs.Moments.{cut_after, cut_before, is_done, is_update, state_of, updates_of}
+use Rattle.worksheet.specs.Worksheets.{Valid, worksheet_of}
+use Rattle.worksheet_laws.specs.SpelledSheets.{AreEnds, AreOneOrTwo, IsPartState, IsPartTask, IsPrintable}
 
 -- ---- tasks of few parts
 
@@ -154,7 +155,7 @@ module _ (op : Operation) where
   IsDim d = d < length op.dims
 
   made_guard : (first : ℕ) (second : Option ℕ) → IsSplit op (record { first = first; second = second })
-      → AreFew (split_dims (record { first = first; second = second })) × All IsDim (split_dims (record { first = first; second = second }))
+      → AreOneOrTwo (split_dims (record { first = first; second = second })) × All IsDim (split_dims (record { first = first; second = second }))
   made_guard first None is = ((omega arith, omega arith), All-cons IsDim first [] is.0 (All-nil IsDim))
   made_guard first (Some d) is = ((omega arith, omega arith), All-cons IsDim first (d ∷ []) is.0 (All-cons IsDim d [] is.1.1 (All-nil IsDim)))
 
@@ -191,6 +192,26 @@ made_is_printable op split dirs s valid is_split has sublist =
       updates = All-filter (is_update op s (cut_before op split dirs) (cut_after op split dirs)) IsPartTask (tasks_of op three) tasks;
       give = ends;
       after = part_states op three few valid.few_terms (is_done op s (cut_after op split dirs)) (tasks_of op three) tasks;
+    }
+
+-- and so can every valid worksheet along a split of its operation, in whatever order its updates stand
+pub valid_is_printable : (op : Operation) (w : Worksheet) → IsValid op → w.operation ≡ op.name → IsSplit op w.split → Contains (directions_of w.split) w.dirs → Valid op w → IsPrintable op w
+valid_is_printable op w valid name is_split has v =
+    let made = made_is_printable op w.split w.dirs w.invariant valid is_split has v.in_order in
+    record {
+      operation = name;
+      split = is_split;
+      single = made.single;
+      invariant = made.invariant;
+      few = subst AreOneOrTwo (sym v.guard) made.few;
+      guard = subst (All (λ d. d < length op.dims)) (sym v.guard) made.guard;
+      start = subst (AreEnds op) (sym v.start) made.start;
+      take = subst (AreEnds op) (sym v.take) made.take;
+      before = subst (All IsPartState) (sym v.before) made.before;
+      updates = λ k d below. let a = get_or w.updates k d in
+          All-contains IsPartTask (updates_of op w.split w.dirs w.invariant) a made.updates ((v.updates.exact a).0 (Contains-get_or w.updates k d below));
+      give = subst (AreEnds op) (sym v.give) made.give;
+      after = subst (All IsPartState) (sym v.after) made.after;
     }
 
 -- that of a variant

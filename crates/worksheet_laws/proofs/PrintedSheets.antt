@@ -30,7 +30,7 @@ use Rattle.worksheet.specs.declared.sheet.Worksheet.{Worksheet}
 use Rattle.worksheet_text.specs.SheetTexts.{dims_text, done_text, end_text, ends_line, ends_text, guard_line, head_lines, held_text, invariant_line, loop_lines, split_line, state_line, update_line, worksheet_text}
 use Rattle.worksheet_text.specs.SheetTexts as texts
 use Rattle.worksheet_text.specs.SheetWords.{Words}
-use Rattle.worksheet_laws.specs.SheetLines.{along_words, ends_words, head_word, inner_words, round_lines, second_words, sheet_lines, split_words, state_words, task_words, tasks_words, update_words}
+use Rattle.worksheet_laws.specs.SheetLines.{along_words, ends_words, head_word, inner_words, lines_of_round, second_words, sheet_lines, split_words, state_words, task_words, tasks_words, update_words}
 use Rattle.worksheet_laws.specs.SpelledSheets.{AreEnds, HasNumber, IsPartState, IsPartTask, IsPrintable, SpellsSheet}
 use Rattle.worksheet_laws.proofs.PrintedComments.{dims_words, equation_flat, own_word, tree_flat, work_flat}
 use Rattle.worksheet_laws.proofs.PrintedParts.{AreRead, IsPart, ReadTo, ReadTo-along, Scans, StopsAt, blank_read, last_scanned, line_begins, line_read, line_scanned, lines_append, lines_each, part_along, part_append, part_before, part_behind_sign, part_behind_space, part_none, part_sign, part_word, parts, parts_stop, tail_comment, tail_feed, tail_space}
@@ -266,7 +266,7 @@ module _ (op : Operation) (valid : IsValid op) (names : HasNames op) where
   behind_first w = comments ++ loop_lines op w ++ texts.round_lines op w ++ codes "end\n"
 
   abbrev pub behind_lines : Worksheet → List Words
-  behind_lines w = split_words op w ∷ (codes "invariant" ∷ tasks_words w.invariant) ∷ (codes "guard" ∷ map (dim_name op) w.guard) ∷ (codes "start" ∷ ends_words op w.start) ∷ (codes "take" ∷ ends_words op w.take) ∷ round_lines op w
+  behind_lines w = split_words op w ∷ (codes "invariant" ∷ tasks_words w.invariant) ∷ (codes "guard" ∷ map (dim_name op) w.guard) ∷ (codes "start" ∷ ends_words op w.start) ∷ (codes "take" ∷ ends_words op w.take) ∷ lines_of_round op w
 
   behind_read : (w : Worksheet) → IsPrintable op w → AreRead (behind_first w) (behind_lines w)
   behind_read w is =

@@ -24,7 +24,7 @@ use Rattle.worksheet_text.specs.declared.round_lines.RoundLines.{RoundLines}
 use Rattle.worksheet_text.specs.SheetFaults.{SheetFault, as_text}
 use Rattle.worksheet_text.specs.SheetReading.{end_at, ends_at, ends_line_at, guard_at, invariant_at, last_at, loop_at, next_line_at, no_line_at, operation_at, operation_named, round_at, sheet_at, sheet_of, split_at, states_at, update_at, updates_at, state_at, worksheet_in}
 use Rattle.worksheet_text.specs.SheetWords.{Words}
-use Rattle.worksheet_laws.specs.SheetLines.{ends_words, last_lines, round_lines, sheet_lines, split_words, state_words, tasks_words, update_words}
+use Rattle.worksheet_laws.specs.SheetLines.{ends_words, last_lines, lines_of_round, sheet_lines, split_words, state_words, tasks_words, update_words}
 use Rattle.worksheet_laws.specs.SpelledSheets.{AreEnds, IsPartState, IsPartTask, IsPrintable, SpellsSheet}
 use Rattle.worksheet_laws.proofs.DimsAgain.{ends_again, guard_again, split_again}
 use Rattle.worksheet_laws.proofs.RoundAgain.{each_again, invariant_again, state_again, update_again, with_words, words_of}
@@ -205,7 +205,7 @@ module _ (end : ℕ) (op : Operation) (w : Worksheet) (valid : IsValid op) (name
       let given = others.2 in
       (given.1, round_steps end op.dims lines rest others.0 given.0 given.1 w.before w.after w.updates w.give before others.1 given.2 given.3, given.4)
 
-  round_read : (lines : List Line) → AreLines end lines → words_of lines ≡ round_lines op w → Ended lines
+  round_read : (lines : List Line) → AreLines end lines → words_of lines ≡ lines_of_round op w → Ended lines
   round_read lines are same =
       let split = map_append (λ (l : Line). l.words) lines (map (state_words (codes "before")) w.before) (map update_words w.updates ++ last_lines op w) same in ended lines split.0 split.1 are split.2 split.3 split.4
 
@@ -213,7 +213,7 @@ module _ (end : ℕ) (op : Operation) (w : Worksheet) (valid : IsValid op) (name
   abbrev Looped : List Line → Type 0
   Looped lines = (rest : List Line)
       × (loop_at end op.dims lines ≡ Ok (record { along = record { split = w.split; dirs = w.dirs }; invariant = w.invariant; guard = w.guard; start = w.start; take = w.take }, rest))
-      × AreLines end rest × (words_of rest ≡ round_lines op w)
+      × AreLines end rest × (words_of rest ≡ lines_of_round op w)
 
   split_read : (line : Line) → line ≡ record { number = line.number; words = split_words op w } → split_at op.dims line ≡ Ok (record { split = w.split; dirs = w.dirs })
   split_read line same = ap (split_at op.dims) same ∙ split_again op valid.dims.once names.dims line.number w.split.first w.split.second w.dirs.first w.dirs.second is.split is.single
@@ -225,7 +225,7 @@ module _ (end : ℕ) (op : Operation) (w : Worksheet) (valid : IsValid op) (name
   guard_read line same = ap (guard_at op.dims) same ∙ guard_again op valid.dims.once names.dims line.number w.guard is.few is.guard
 
   loop_read : (lines : List Line) → AreLines end lines
-      → words_of lines ≡ split_words op w ∷ (codes "invariant" ∷ tasks_words w.invariant) ∷ (codes "guard" ∷ map (dim_name op) w.guard) ∷ (codes "start" ∷ ends_words op w.start) ∷ (codes "take" ∷ ends_words op w.take) ∷ round_lines op w
+      → words_of lines ≡ split_words op w ∷ (codes "invariant" ∷ tasks_words w.invariant) ∷ (codes "guard" ∷ map (dim_name op) w.guard) ∷ (codes "start" ∷ ends_words op w.start) ∷ (codes "take" ∷ ends_words op w.take) ∷ lines_of_round op w
       → Looped lines
   loop_read lines are same =
       let l1 = due end lines _ _ _ are same in

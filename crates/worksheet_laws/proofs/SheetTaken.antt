@@ -28,7 +28,7 @@ use Rattle.worksheet_text.specs.SheetFaults.{SheetFault, as_text, syntax, unknow
 use Rattle.worksheet_text.specs.SheetReading.{each_line, end_at, ends_at, ends_line_at, guard_at, invariant_at, is_sheet_line, last_at, loop_at, more_due, next_line_at, no_line_at, operation_at, operation_named, round_at, sheet_at, split_at, state_at, states_at, update_at, updates_at, worksheet_in}
 use Rattle.worksheet_text.specs.SheetWords.{Words, nothing_left, part_at, task_at, tasks_at, word_at}
 use Rattle.worksheet_laws.specs.SheetLines.{along_words, ends_words, second_words, sheet_lines, state_words, task_words, tasks_words, update_words}
-use Rattle.worksheet_laws.specs.SpelledSheets.{AreEnds, AreFew, IsPartState, IsPartTask, IsPrintable, SpellsSheet}
+use Rattle.worksheet_laws.specs.SpelledSheets.{AreEnds, AreOneOrTwo, IsPartState, IsPartTask, IsPrintable, SpellsSheet}
 use Rattle.worksheet_laws.proofs.DimsTaken.{SplitTaken, begun, ends_taken, guard_taken, split_taken, two_words}
 use Rattle.worksheet_laws.proofs.NamedOperations.{named_has}
 use Rattle.worksheet_laws.proofs.RoundAgain.{words_of}
@@ -144,7 +144,7 @@ module _ (op : Operation) (end : ℕ) where
     split : SplitTaken op (along_line r.0.along) r.0.along
     words : words_of lines ≡ loop_before r.0 (words_of r.1)
     invariant : All IsPartTask r.0.invariant
-    few : AreFew r.0.guard
+    few : AreOneOrTwo r.0.guard
     guard : All (λ d. d < length op.dims) r.0.guard
     start : AreEnds op r.0.start
     take : AreEnds op r.0.take

@@ -1,2 +1,3 @@
 pub mod SheetLines
+pub mod ShownPlaces
 pub mod SpelledSheets

@@ -65,8 +65,8 @@ abbrev pub last_lines : Operation → Worksheet → List Words
 last_lines op w = (codes "give" ∷ ends_words op w.give) ∷ (map (state_words (codes "after")) w.after ++ ((codes "end" ∷ []) ∷ []))
 
 -- the states before, and the lines behind them
-abbrev pub round_lines : Operation → Worksheet → List Words
-round_lines op w = map (state_words (codes "before")) w.before ++ (map update_words w.updates ++ last_lines op w)
+abbrev pub lines_of_round : Operation → Worksheet → List Words
+lines_of_round op w = map (state_words (codes "before")) w.before ++ (map update_words w.updates ++ last_lines op w)
 
 -- all lines
 abbrev pub sheet_lines : Operation → Worksheet → List Words
@@ -76,4 +76,4 @@ sheet_lines op w = (codes "worksheet" ∷ w.operation ∷ [])
     ∷ (codes "guard" ∷ map (dim_name op) w.guard)
     ∷ (codes "start" ∷ ends_words op w.start)
     ∷ (codes "take" ∷ ends_words op w.take)
-    ∷ round_lines op w
+    ∷ lines_of_round op w

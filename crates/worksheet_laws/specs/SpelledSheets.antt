@@ -43,12 +43,12 @@ pub record IsPartState (s : State) : Type 0 where
   pub done : All IsPartTask s.done
 
 -- one or two
-abbrev pub AreFew : {X : Type 0} → List X → Type 0
-AreFew xs = (0 < length xs) × (length xs ≤ 2)
+abbrev pub AreOneOrTwo : {X : Type 0} → List X → Type 0
+AreOneOrTwo xs = (0 < length xs) × (length xs ≤ 2)
 
 -- ends of one dimension or two of the operation
 pub record AreEnds (op : Operation) (ends : List End) : Type 0 where
-  pub few : AreFew ends
+  pub few : AreOneOrTwo ends
   pub dims : All (λ e. e.dim < length op.dims) ends
 
 -- a worksheet of the operation whose lines can be printed
@@ -57,7 +57,7 @@ pub record IsPrintable (op : Operation) (w : Worksheet) : Type 0 where
   pub split : IsSplit op w.split
   pub single : w.split.second ≡ None → w.dirs.second ≡ Forward
   pub invariant : All IsPartTask w.invariant
-  pub few : AreFew w.guard
+  pub few : AreOneOrTwo w.guard
   pub guard : All (λ d. d < length op.dims) w.guard
   pub start : AreEnds op w.start
   pub take : AreEnds op w.take

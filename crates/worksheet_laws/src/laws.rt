@@ -1,24 +1,30 @@
 //! Worksheets and their texts. Each law is the contract of a function that does nothing.
 
-ghost use Rattle.std.specs.Prelude.{◌≡◌, ℕ, ◌+◌, List, ◌++◌, length, Ok, Err, Some, Contains};
+ghost use Rattle.std.specs.Prelude.{◌≡◌, ◌↔◌, ℕ, ◌+◌, List, ◌++◌, length, Ok, Err, Some, Contains};
 ghost use Rattle.text_scan.specs.declared.Rest.{Rest};
 ghost use Rattle.operation_spec.specs.declared.operation.Operation.{Operation};
+ghost use Rattle.operation_spec.specs.Splits.{IsSplit};
 ghost use Rattle.operation_spec.specs.ValidOperations.{HasNames, IsValid};
 ghost use Rattle.equation.specs.declared.job.Job.{Job};
 ghost use Rattle.equation.specs.Jobs.{IsJob};
 ghost use Rattle.invariant_family.specs.declared.variant.Variant.{Variant};
 ghost use Rattle.invariant_family.specs.Families.{family_of};
+ghost use Rattle.invariant_family.specs.Splits.{directions_of};
 ghost use Rattle.job_text.specs.declared.stop.Stop.TheVariants as stops;
 ghost use Rattle.job_text.specs.JobLines.{job_lines};
 ghost use Rattle.job_text.specs.JobTexts.{job_text};
 ghost use Rattle.job_text.specs.SpelledJobs.{IsWritable, Spells, job_in};
 ghost use Rattle.worksheet.specs.declared.sheet.Worksheet.{Worksheet};
-ghost use Rattle.worksheet.specs.declared.verdict.Verdict.TheVariants.{Right};
-ghost use Rattle.worksheet.specs.Worksheets.{worksheet_of};
+ghost use Rattle.worksheet.specs.declared.verdict.Shown.{Shown};
+ghost use Rattle.worksheet.specs.declared.verdict.Verdict.TheVariants.{Right, Wrong};
+ghost use Rattle.worksheet.specs.declared.verdict.WsPlace.{WsPlace};
+ghost use Rattle.worksheet.specs.Worksheets.{Valid, worksheet_of};
+ghost use Rattle.worksheet_check.specs.Places.{IsRightAt};
 ghost use Rattle.worksheet_check.specs.Verdicts.{verdict_of};
 ghost use Rattle.worksheet_text.specs.SheetFaults.{SheetFault};
 ghost use Rattle.worksheet_text.specs.SheetReading.{operation_named, worksheet_in};
 ghost use Rattle.worksheet_text.specs.SheetTexts.{worksheet_text};
+ghost use Rattle.worksheet_laws.specs.ShownPlaces.{IsShownAt};
 ghost use Rattle.worksheet_laws.specs.SpelledSheets.{IsPrintable, SpellsSheet};
 
 /// A text that spells a worksheet has no fault, and is read as that worksheet, where its operation is the first with its
@@ -61,6 +67,14 @@ pub fn printed_worksheets_are_spelled()
         (record { at = length front; line = line }) op w }
 {}
 
+/// A valid worksheet along one of its operation's splits can be printed, in whatever order its updates stand. So what is
+/// printed of it is read as itself, and is right.
+pub fn valid_worksheets_are_printable()
+    ensures { (op : Operation) (w : Worksheet) → IsValid op → w.operation ≡ op.name
+        → IsSplit op w.split → Contains (directions_of w.split) w.dirs
+        → Valid op w → IsPrintable op w }
+{}
+
 /// A made worksheet, printed behind any bytes and read from there, is the made one, for each variant of a valid operation that is
 /// the first with its name; and its verdict is that it is right.
 pub fn made_worksheets_are_read_and_right()
@@ -101,4 +115,16 @@ pub fn made_worksheets_stand_behind_their_jobs()
     ensures right { (job : Job) (op : Operation) (v : Variant) → IsJob job
         → operation_named job.operations op.name ≡ Some op → Contains (family_of op) v
         → verdict_of op (worksheet_of op v.split v.dirs v.kept) ≡ Right }
+{}
+
+/// A worksheet is valid exactly where it is right at all its places.
+pub fn valid_is_right_at_all_places()
+    ensures { (op : Operation) (w : Worksheet)
+        → Valid op w ↔ ((place : WsPlace) → IsRightAt op w place) }
+{}
+
+/// What a verdict shows of the place that it names is what the worksheet has there, and what is due there.
+pub fn verdicts_show_what_is_there_and_due()
+    ensures { (op : Operation) (w : Worksheet) (place : WsPlace) (found due : Shown)
+        → verdict_of op w ≡ Wrong place found due → IsShownAt op w place found due }
 {}
