@@ -5,6 +5,7 @@ A matrix is a list of rows, each a list of whole numbers of any size and sign. W
 
 import csv
 import io
+import os
 import re
 import sys
 from fractions import Fraction
@@ -14,7 +15,7 @@ BY_ENDING = {"mtx": "mtx", "mm": "mtx", "sms": "sms", "csv": "csv"}
 # A text that names a matrix of more rows or columns than a job may have is refused before its zeros are made.
 MOST = 1024
 NUMBER = re.compile(r"[+-]?(\d+(\.\d*)?|\.\d+)([eEdD][+-]?\d{1,4})?")
-FIELDS = ("integer", "real", "double", "pattern")
+FIELDS = ("integer", "unsigned-integer", "real", "double", "pattern")
 SYMMETRIES = ("general", "symmetric", "skew-symmetric")
 
 
@@ -107,7 +108,7 @@ def matrix_market(name, text):
     if layout not in ("array", "coordinate"):
         raise Refused(f"{name}: the layout {layout} is neither array nor coordinate")
     if field not in FIELDS:
-        raise Refused(f"{name}: the field {field} has entries that aren't whole numbers")
+        raise Refused(f"{name}: the field {field} is none of {', '.join(FIELDS)}")
     if symmetry not in SYMMETRIES:
         raise Refused(f"{name}: the symmetry {symmetry} is none of {', '.join(SYMMETRIES)}")
     lines = Lines(name, text, "%")
@@ -185,6 +186,13 @@ def sms(name, text):
         matrix.put(counted(i, place), counted(j, place), whole(word, place), place)
 
 
+def between_commas(text, place):
+    """The whole number between two commas; one that blanks or other signs part is told what is due."""
+    if re.search(r"[\s;|]", text):
+        raise Refused(f"{place}: {text!r} isn't a whole number; the file is read as CSV, with a comma between two numbers")
+    return whole(text, place)
+
+
 def comma_separated(name, text):
     """A matrix with a line for each row and a comma between each two numbers."""
     reader = csv.reader(io.StringIO(text, newline=""))
@@ -192,7 +200,7 @@ def comma_separated(name, text):
     for row in reader:
         if any(cell.strip() for cell in row):
             place = f"{name}: line {reader.line_num}"
-            matrix.append([whole(cell.strip(), place) for cell in row])
+            matrix.append([between_commas(cell.strip(), place) for cell in row])
             if len(row) != len(matrix[0]):
                 raise Refused(f"{place}: {len(row)} numbers in a row; the first one has {len(matrix[0])}")
     if len(matrix) > MOST or (matrix and len(matrix[0]) > MOST):
@@ -246,3 +254,16 @@ def matrix_file(matrix, cols, kind):
         lines = ["%%MatrixMarket matrix array integer general", f"{rows} {cols}",
                  *(str(row[j]) for j in range(cols) for row in matrix)]
     return "\n".join(lines) + "\n"
+
+
+def printed_text(text):
+    """Prints a text; 0, or 1 where it can't be written."""
+    try:
+        sys.stdout.write(text)
+        sys.stdout.flush()
+        return 0
+    except OSError as wrong:  # who has ended before all was read says why; what Python still holds goes nowhere
+        if not isinstance(wrong, BrokenPipeError):
+            print(f"the output could not be written: {wrong.strerror}", file=sys.stderr)
+        os.dup2(os.open(os.devnull, os.O_WRONLY), sys.stdout.fileno())
+        return 1

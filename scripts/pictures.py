@@ -15,6 +15,7 @@ from reference.structures import inside  # noqa: E402
 from reference.tasks import Task, block_tasks, blocks_read, task_class, tasks  # noqa: E402
 
 CELL, GAP, LEFT, TOP = 20, 26, 16, 22
+LABEL = 70  # as wide as the label of an iteration may be
 STATES = {"done": "#5aa469", "partly": "#bfe3c6", "hand": "#f2a541", "come": "#e9e9e9"}
 LEGEND = (("done", "done"), ("partly", "some of its tasks done"), ("hand", "in hand in this iteration"),
           ("come", "to come"))
@@ -146,7 +147,7 @@ def variant_picture(operation, variant, parts, y):
     side, counts = parts * CELL, part_counts(operation, variant, parts)
     lines = [f'<text x="{LEFT}" y="{y + 12}" font-weight="bold">{escape(f"{operation.name} {variant.text}")}</text>']
     for number, (before, now) in enumerate(iterations(operation, variant, parts)):
-        x = LEFT + number * (side + GAP)
+        x = LEFT + number * (max(side, LABEL) + GAP)
         lines.append(f'<text x="{x}" y="{y + 30}" fill="#555">iteration {number + 1}</text>')
         lines += iteration_picture(operation, counts, (x, y + 36), side, before, now)
     return lines, 36 + len(operation.operands()) * (side + GAP) + 14
@@ -171,7 +172,7 @@ def picture(chosen, parts):
         lines += more
         y += height
     longest = max([len(f"{operation.name} {variant.text}") for operation, variant in chosen], default=0)
-    width = LEFT + max(parts * (parts * CELL + GAP), 8 * longest, 760)
+    width = LEFT + max(parts * (max(parts * CELL, LABEL) + GAP), 8 * longest, 760)
     head = (f'<svg xmlns="http://www.w3.org/2000/svg" width="{width}" height="{y}" viewBox="0 0 {width} {y}" '
             'font-family="sans-serif" font-size="12">')
     return "\n".join([head, f'<rect width="{width}" height="{y}" fill="white"/>', *lines, "</svg>"]) + "\n"

@@ -1,4 +1,4 @@
-"""What flame prints: matrices, families and traces, as values."""
+"""What flame prints: matrices, families, expressions, worksheets and traces, as values."""
 
 import re
 from typing import NamedTuple
@@ -39,6 +39,31 @@ class Variant(NamedTuple):
     directions: dict
     tasks: list
     text: str
+
+
+class Block(NamedTuple):
+    """What is said of a block: its row and column, its tasks as they are printed, and the lines to be written into it."""
+
+    row: int
+    col: int
+    tasks: list
+    lines: list
+
+
+class Pme(NamedTuple):
+    """A partitioned matrix expression: its first line, and its blocks."""
+
+    title: str
+    blocks: list
+
+
+class Sheet(NamedTuple):
+    """A worksheet: what stands behind the words that come once (and behind 1a and 1b), the states, and the updates."""
+
+    said: dict
+    before: list
+    updates: list
+    after: list
 
 
 def refuse_refusal(text):
@@ -113,3 +138,47 @@ def families(text):
             directions = dict(zip(words[2::2], words[3::2]))
             family.append(Variant(int(words[0]), directions, tasks.split(), line))
     return found
+
+
+def expression(text):
+    """The partitioned matrix expression that `pme` printed."""
+    refuse_refusal(text)
+    lines = text.splitlines()
+    if not lines or not lines[0].startswith("pme ") or lines[-1] != "end":
+        raise Refused("there is no partitioned matrix expression; `flame pme OP D` prints one")
+    found = {}
+    for line in lines[1:]:
+        head = re.match(r"X\[(\d+),(\d+)\] = ", line)
+        if head:
+            found[head[1], head[2]] = Block(int(head[1]), int(head[2]), [], [line])
+        task = re.match(r"\d+ \w+\((\d+),(\d+)[,)]", line)
+        if task and (task[1], task[2]) in found:
+            found[task[1], task[2]].tasks.append(line)
+            found[task[1], task[2]].lines.append(line)
+    return Pme(lines[0], list(found.values()))
+
+
+def sheet(text):
+    """The worksheet that `worksheet` printed, or one that stands behind a job. A state's comment is its expression where it has
+    a block of an operand."""
+    refuse_refusal(text)
+    said, states, updates, lines = {}, {"before": [], "after": []}, [], text.splitlines()
+    starts = [at for at, line in enumerate(lines) if line.split()[:1] == ["worksheet"]]
+    for line in lines[starts[0]:] if starts else []:
+        body, _, comment = line.partition("#")
+        state = re.match(r"\s*(before|after)\s+(\d)\s+(\d)\s*:(.*)", body)
+        word, _, rest = " ".join(body.split()).partition(" ")
+        if state:
+            tasks, comment = state[4].split(), comment.strip()
+            block = [f"({state[2]},{state[3]}) {comment}".strip() if "[" in comment else f"({state[2]},{state[3]})", *tasks]
+            states[state[1]].append(Block(int(state[2]), int(state[3]), tasks, block))
+        elif word == "update":
+            updates.append(rest)
+        elif word:
+            said[word] = rest
+        elif comment.strip().startswith(("1a ", "1b ")):
+            said[comment.strip()[:2]] = comment.strip()[3:]
+    due = {"worksheet", "split", "invariant", "guard", "start", "take", "give", "end"}
+    if not starts or not due <= set(said) or not states["before"] or not states["after"]:
+        raise Refused("there is no whole worksheet; `flame worksheet OP V` prints one")
+    return Sheet(said, states["before"], updates, states["after"])
