@@ -31,6 +31,7 @@ FAILED = []
 DENSE = [[0, 100], [5, 0], [7, 42]]
 SAME = {
     "array.mtx": "%%MatrixMarket matrix array integer general\n% a comment\n3 2\n0\n5\n7\n-1\n0\n1052\n",
+    "unsigned.mtx": "%%MatrixMarket matrix array unsigned-integer general\n3 2\n0\n5\n7\n100\n0\n42\n",
     "real.mtx": "%%MatrixMarket Matrix Array Real General\n3 2\n0.0\n5e0\n+7.\n-1.00\n0\n1.052e3\n",
     "coordinate.mtx": "%%MatrixMarket matrix coordinate integer general\n3 2 4\n2 1 5\n3 1 7\n\n1 2 -1\n3 2 42\n",
     "sms.sms": "3 2 M\n1 2 -1\n2 1 5\n3 1 7\n3 2 42\n0 0 0\n",
@@ -57,6 +58,7 @@ WRONG = {
     "fraction.sms": ("1 1 M\n1 1 1/2\n0 0 0\n", "'1/2' isn't a whole number"),
     "open.sms": ("1 1 M\n1 1 2\n", "the text ends where an entry or the line 0 0 0 is due"),
     "words.csv": ("a,b\n1,2\n", "line 1: 'a' isn't a whole number"),
+    "blanks.csv": ("1 2\n3 4\n", "'1 2' isn't a whole number; the file is read as CSV"),
     "ragged.csv": ("1,2\n3\n", "line 2: 1 numbers in a row; the first one has 2"),
     "nan.csv": ("nan\n", "'nan' isn't a whole number"),
     "bytes.csv": ("\udcff", "the file is no text"),
@@ -174,14 +176,55 @@ def systems_are_solved(folder):
     (folder / "b.csv").write_text("1\n6\n")
     _, job, _ = script("matrix-to-job", "check", *files, "-m", 101)
     expect("another right side isn't", "differs statement 1 row 1 column 0\n", flame(job, "verify"))
+    pivots_are_exchanged(folder)
     for kind, *more in (["multiply", folder / "x.mtx"], ["factor"], ["factor", "--ldl"], ["inverse"]):
         (folder / "A.mtx").write_text("%%MatrixMarket matrix array integer symmetric\n2 2\n2\n3\n-1\n")
         _, job, _ = script("matrix-to-job", kind, folder / "A.mtx", *more, "-m", 101)
         expect(f"{kind} is done", True, flame(job, "run", "--block", "32", "--workers", "1").startswith("matrix "))
+    _, job, _ = script("matrix-to-job", "inverse", folder / "A.mtx", "--ldl", "-m", 101)
+    expect("the inverse by LDL", block([[46, 37], [37, 9]], "X"), flame(job, "run", "--block", "1", "--workers", "1"))
+    for entry, due in ((9, "verified 1\n"), (8, "differs statement 1 row 0 column 1\n")):
+        _, job, _ = script("matrix-to-job", "check", folder / "A.mtx", "-", "-m", 101, text=f"46,37\n37,{entry}\n")
+        expect("the inverse is verified, and another isn't", due, flame(job, "verify"))
+    answer = script("matrix-to-job", "inverse", "--ldl", "-", "-m", 7, text="1,2\n3,4\n")
+    refused("no symmetry", "A isn't symmetric modulo m", answer)
     refused("no square", "A has to be square", script("matrix-to-job", "solve", folder / "x.mtx", folder / "b.csv", "-m", 101))
     refused("modulus", "isn't in 2 to 4294967295", script("matrix-to-job", "solve", *words[:2], "-m", 1))
     refused("no name", "'1st' is no name", script("matrix-to-job", "block", folder / "x.mtx", "-m", 7, "--name", "1st"))
     refused("no file", "No such file", script("matrix-to-job", "block", folder / "none.mtx", "-m", 7))
+
+
+def pivots_are_exchanged(folder):
+    """Exchanges find an order wherever A has an inverse modulo a prime, and say it where A has none."""
+    shift = [[int(j == (i + 3) % 7) for j in range(7)] for i in range(7)]
+    back = [list(column) for column in zip(*shift)]
+    for name, matrix in (("shift", shift), ("twos", [[2, 4], [3, 6]]), ("threes", [[3, 1], [4, 1]])):
+        (folder / f"{name}.csv").write_text("".join(",".join(map(str, row)) + "\n" for row in matrix))
+    words = "inverse", folder / "shift.csv", "--exchange", "-m"
+    for modulus in 2, 12, 4294967291:
+        _, job, _ = script("matrix-to-job", *words, modulus)
+        expect(f"exchanges modulo {modulus}", block(back, "X"), flame(job, "run", "--block", "3", "--workers", "1"))
+    words = "inverse", folder / "threes.csv", "-m", 6
+    refused("no exchange", "take a prime for m", script("matrix-to-job", *words, "--exchange"))
+    words = "inverse", folder / "twos.csv", "-m", 101
+    refused("no inverse", "A has no inverse modulo 101: column 1, counted", script("matrix-to-job", *words, "--exchange"))
+    expect("two ways", (2, ""), script("matrix-to-job", *words, "--exchange", "--order", 1)[:2])
+
+
+def rational_solutions(folder):
+    """Several columns, pivots that are 0, and more primes than a fraction of small numbers needs; what has no solution."""
+    def answer(first, second):
+        for name, text in (("A", first), ("B", second)):
+            (folder / f"{name}.csv").write_text(text)
+        words = [sys.executable, ROOT / "examples" / "rational.py", folder / "A.csv", folder / "B.csv"]
+        done = subprocess.run(words, text=True, capture_output=True, cwd=folder)
+        return done.returncode, done.stdout, done.stderr
+
+    due = f"1/{3 * 10**70},{10**70}/3\n-3/2,0\n"
+    expect("rational", (0, due, ""), answer(f"0,2\n{3 * 10**70},0\n", f"-3,0\n1,{10**140}\n"))
+    for first, second, sentence in (("1,2\n2,4\n", "1\n1\n", "rational: A has no inverse"), ("1\n", "1\n2\n", "as many rows"),
+                                    ("1.5\n", "1\n", "line 1: 1.5 isn't a whole number"), ("1,1\n", "1\n", "to be square")):
+        refused(sentence, sentence, answer(first, second))
 
 
 def loops_are_drawn():
@@ -201,6 +244,36 @@ def loops_are_drawn():
     refused("no variant", "lu has no variant 6", script(
         "draw", "family", ROOT / "examples" / "families.flame", "--operation", "lu", "--variants", "6"))
     refused("no job", "flame answered: refused Header line 1", script("draw", "family", text="flame 2\n"))
+
+
+def sheets_are_drawn():
+    """Each block of an expression and of a worksheet's states is there with its tasks, and what was changed has a colour."""
+    job = (ROOT / "examples" / "families.flame").read_text()
+
+    def drawn(kind, text):
+        status, picture, _ = script("draw", kind, text=text)
+        found = xml.fromstring(picture)
+        titles = [one.text.split("\n") for one in found.iter("{http://www.w3.org/2000/svg}title")]
+        return status, [one for one in titles if one[0].startswith("block")], [
+            "".join(one.itertext()) for one in found.iter("{http://www.w3.org/2000/svg}text")], picture
+
+    status, blocks, words, _ = drawn("pme", flame(job, "pme", "lu", "n"))
+    expect("an expression", (0, "pme lu split n", 4, [
+        "block (1,1)", "X[1,1] = lu(W[1,1] - X.l[1,0]*X.u[0,1])", "4 left(1,1,0) needs 2 3", "5 solve(1,1) needs 4"]),
+        (status, words[0], len(blocks), blocks[3]))
+    sheet = flame(job, "worksheet", "lu", "5")
+    status, blocks, words, picture = drawn("worksheet", sheet)
+    steps = [word for word in words if word in ("1a", "4", "2", "3", "5a", "6", "8", "5b", "7", "1b")]
+    expect("a worksheet", (0, "1a 4 2 3 5a 6 8 8 8 8 5b 7 2 1b".split(), 18, 4), (
+        status, steps, len(blocks), picture.count("#fbdfb3") - 1))
+    expect("a state", ["block (2,2)", "(2,2) W[2,2] - X.l[2,0]*X.u[0,2] - X.l[2,1]*X.u[1,2]", "left(2,2,0)", "left(2,2,1)"],
+           blocks[17])
+    status, blocks, _, _ = drawn("worksheet", (ROOT / "examples" / "worksheet_lu.flame").read_text())
+    expect("a worksheet behind a job", (0, ["block (0,0)", "(0,0)", "solve(0,0)"]), (status, blocks[0]))
+    refused("no worksheet", "there is no whole worksheet", script("draw", "worksheet", text=job))
+    refused("half a worksheet", "there is no whole worksheet", script("draw", "worksheet", text=sheet[:-4]))
+    refused("no expression", "there is no partitioned matrix expression", script("draw", "pme", text=sheet))
+    refused("a refusal", "flame answered: refused NoSplit", script("draw", "pme", text="refused NoSplit\n"))
 
 
 def traces_are_drawn():
@@ -224,9 +297,10 @@ def main():
         expect(f"{name} --help", (0, True, ""), (done.returncode, done.stdout.startswith(f"usage: {name}"), done.stderr))
         expect(f"{name} with bad words", (2, ""), script(name, "--bad")[:2])
     with tempfile.TemporaryDirectory() as place:
-        for check in (files_are_read, scipy_is_used, files_are_written, systems_are_solved):
+        for check in (files_are_read, scipy_is_used, files_are_written, systems_are_solved, rational_solutions):
             check(Path(place))
     loops_are_drawn()
+    sheets_are_drawn()
     traces_are_drawn()
     return 1 if FAILED else 0
 
