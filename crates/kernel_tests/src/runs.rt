@@ -102,29 +102,6 @@ fn run_right_ldl(
     Ok(())
 }
 
-/// Solves with the sum of t on the left and u on the right, or with their difference.
-fn run_sylvester(
-    alloc: Global,
-    case: &Case,
-    t: &Operand,
-    u: &Operand,
-    w: &mut PartMut<'_>,
-) -> Result<(), Failure>
-    requires triangular { IsTriangular t.now.reading.structure × IsTriangular u.now.reading.structure }
-    requires left { IsRead case.now.m case.now.rows case.now.rows
-        t.now.reading.structure t.now.reading.primed t.now.matrix }
-    requires right { IsRead case.now.m case.now.cols case.now.cols
-        u.now.reading.structure u.now.reading.primed u.now.matrix }
-    requires work { IsWork case.now.m case.now.rows case.now.cols w.old }
-{
-    let minus = case.minus();
-    let mut inverses = vec![in alloc; 0; case.rows as usize * case.cols as usize]?;
-    let mut block = whole_of(&mut inverses, case.rows, case.cols);
-    pivots_sylvester(case.m, t.oper(), u.oper(), minus, &mut block)?;
-    solve_sylvester(case.m, t.oper(), u.oper(), minus, block.as_part(), w);
-    Ok(())
-}
-
 /// Finds the inverses of the pivots of u, where the work matrix is one row.
 fn run_pivots(case: &Case, u: &Operand, w: &mut PartMut<'_>) -> Result<(), Failure>
     requires factor { IsRead case.now.m case.now.cols case.now.cols
@@ -156,7 +133,15 @@ pub fn run_solve(
         Kernel::SolveLeft => run_left(alloc, case, t, w),
         Kernel::SolveRight => run_right(alloc, case, u, w),
         Kernel::SolveRightLdl => run_right_ldl(alloc, case, u, w),
-        Kernel::SolveSylvester => run_sylvester(alloc, case, t, u, w),
+        // with the sum of t on the left and u on the right, or with their difference
+        Kernel::SolveSylvester => {
+            let minus = case.minus();
+            let mut inverses = vec![in alloc; 0; case.rows as usize * case.cols as usize]?;
+            let mut block = whole_of(&mut inverses, case.rows, case.cols);
+            pivots_sylvester(case.m, t.oper(), u.oper(), minus, &mut block)?;
+            solve_sylvester(case.m, t.oper(), u.oper(), minus, block.as_part(), w);
+            Ok(())
+        }
         Kernel::Pivots => run_pivots(case, u, w),
         _ => {
             pivots_sylvester(case.m, t.oper(), u.oper(), case.minus(), w)?;
